@@ -1,0 +1,6 @@
+-- What several proofs share.
+pub mod Ranges
+pub mod Rules
+pub mod Apart
+pub mod Windows
+pub mod SegmentLaws

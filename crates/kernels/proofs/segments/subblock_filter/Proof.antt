@@ -1,0 +1,37 @@
+-- `kernels::segments::subblock_filter` meets its contract.
+-- Assumes nothing.
+use borrow.Author.Needs.{needs}
+use mathlib.Core.Path.{sym, _∙_}
+use borrow.Author.Tests.{leb-true}
+use Rattle.kernels.specs.Answers.{kernelOutcome}
+use Rattle.kernels.specs.Segment.{half, taps, fitsAt, windowed, windowAnswer}
+use Rattle.kernels.proofs.Windows.{taken, left}
+use Rattle.kernels.proofs.segments.subblock_filter.Statement.{statement}
+use Rattle.kernels.proofs.segments.subblock_filter.Tie as tie
+
+has-window-requires : tie.Need-has-window-requires
+has-window-requires c κs = search needs
+
+subblock-filter-at-requires : tie.Need-subblock-filter-at-requires
+subblock-filter-at-requires c κs = leb-true _ _ (sym (c .before .before .has-window .ensures) ∙ c .before .if1 .taken)
+
+same-length : tie.Need-same-length
+same-length c = search needs
+
+returns : tie.Need-returns
+unfolding kernelOutcome half taps fitsAt windowed windowAnswer
+returns c =
+    let j = c .before .before in
+    let t = j .before .before in
+    let h = t .before .has-window .ensures in
+    (sym (taken _ _ h (t .if1 .taken)), j .subblock-filter-at .ensures ∙ sym (taken _ _ h (t .if1 .taken)))
+
+returns-2 : tie.Need-returns-2
+unfolding kernelOutcome half taps fitsAt windowed windowAnswer
+returns-2 c =
+    let h = c .before .has-window .ensures in
+    (sym (left _ _ h (c .if1 .left)), sym (left _ _ h (c .if1 .left)))
+
+pub subblock-filter-spec : {M : Type 1} → statement M
+subblock-filter-spec =
+    tie.close (tie.spec has-window-requires subblock-filter-at-requires same-length returns returns-2)

@@ -1,0 +1,8 @@
+-- What the contracts of crate `kernels` say, from RFC 6386 sections 15.2 to 15.4. Lines are those of the RFC's text file.
+pub mod Answers
+pub mod Numbers
+pub mod Limits
+pub mod Kernels
+pub mod Segment
+pub mod Windows
+pub mod Figures

@@ -1,0 +1,13 @@
+// What the kernels answer. `specs/Answers.antt` gives each case its number in document 01.
+
+// The adjustment that q0 lost, or refusal 4.
+pub enum AdjustAnswer {
+    AdjustedBy(i32),
+    NoWindowToAdjust,
+}
+
+// Done, or refusal 4.
+pub enum KernelAnswer {
+    Done,
+    NoWindow,
+}

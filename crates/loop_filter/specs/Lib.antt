@@ -1,0 +1,2 @@
+-- What the contracts of the C entries add to the definitions of the crates below.
+pub mod Out

@@ -1,0 +1,3 @@
+// The C entries of the loop filter, what hosts link. A slice crosses as a pointer and a length, `&mut T` as a pointer.
+pub mod numbers;
+pub mod segments;

@@ -3,4 +3,6 @@ pub mod Ranges
 pub mod Rules
 pub mod Apart
 pub mod Windows
+pub mod KernelLaws
 pub mod SegmentLaws
+pub mod LentWindows

@@ -5,4 +5,3 @@ pub mod Limits
 pub mod Kernels
 pub mod Segment
 pub mod Windows
-pub mod Figures

@@ -1,1 +1,2 @@
 -- What several proofs share.
+pub mod Numbers16

@@ -1,2 +1,3 @@
 -- What the contracts of the C entries add to the definitions of the crates below.
 pub mod Out
+pub mod Settings

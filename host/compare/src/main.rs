@@ -1,0 +1,72 @@
+//! Calls the Rattle loop filter through its C entries and the oracle side by side.
+//!
+//! The modules in `MODULES` compare one layer each. They run their kinds of cases through [`Tally::run`], which counts
+//! them, prints what differs, and fails on a kind or a class that did not occur.
+
+mod ffi;
+mod guard;
+mod kernels;
+mod limits;
+mod numbers;
+mod random;
+mod shrink;
+mod tally;
+mod windows;
+
+use std::process::ExitCode;
+use tally::Tally;
+
+const USAGE: &str = "usage: compare [--long] [--seed NUMBER] [--only MODULE]";
+
+type Comparison = fn(&Plan, &mut Tally);
+
+const MODULES: [(&str, Comparison); 4] = [
+    ("numbers", numbers::compare),
+    ("limits", limits::compare),
+    ("kernels", kernels::compare),
+    ("windows", windows::compare),
+];
+
+/// How much to compare.
+pub struct Plan {
+    /// The exhaustive and large runs.
+    pub long: bool,
+    pub seed: u64,
+    pub threads: usize,
+    only: Option<String>,
+}
+
+impl Plan {
+    fn from_arguments(mut arguments: impl Iterator<Item = String>) -> Option<Plan> {
+        let mut plan = Plan { long: false, seed: 6386, threads: 1, only: None };
+        while let Some(argument) = arguments.next() {
+            match argument.as_str() {
+                "--long" => (plan.long, plan.threads) = (true, 2),
+                "--seed" => plan.seed = arguments.next()?.parse().ok()?,
+                "--only" => {
+                    let module = arguments.next()?;
+                    MODULES.iter().find(|(name, _)| *name == module)?;
+                    plan.only = Some(module);
+                }
+                _ => return None,
+            }
+        }
+        Some(plan)
+    }
+}
+
+fn main() -> ExitCode {
+    let Some(plan) = Plan::from_arguments(std::env::args().skip(1)) else {
+        eprintln!("{USAGE}");
+        return ExitCode::from(2);
+    };
+    println!("compare: {} run, seed {}", if plan.long { "long" } else { "quick" }, plan.seed);
+    guard::report_faults();
+    let mut tally = Tally::default();
+    for (name, compare) in MODULES {
+        if plan.only.as_deref().is_none_or(|only| only == name) {
+            compare(&plan, &mut tally);
+        }
+    }
+    tally.verdict()
+}

@@ -10,3 +10,25 @@ pub mod Final
 pub mod Bases
 pub mod RowsFirst
 pub mod Commute
+-- Demand 3.
+pub mod CallFacts
+pub mod CallRuns
+pub mod Demand3
+pub mod RowsLaws
+pub mod SentRows
+pub mod CallsShown
+-- What the proofs of the code share.
+pub mod Tables
+pub mod TapNumbers
+pub mod TapPositions
+pub mod TapsFirst
+pub mod RowStores
+pub mod ArrayRows
+pub mod RunTurns
+pub mod RowRuns
+pub mod VerticalRows
+pub mod PlaneSteps
+pub mod Squares
+pub mod EntryLaws
+pub mod Plans
+pub mod Passes

@@ -11,6 +11,9 @@ use Rattle.levels.specs.declared.modes.MaybeRef.{MaybeRef}
 use Rattle.levels.specs.declared.modes.MaybeRef.the-variants as reference
 use Rattle.levels.specs.declared.modes.MaybeInter.{MaybeInter}
 use Rattle.levels.specs.declared.modes.MaybeInter.the-variants as inter
+use Rattle.frame.specs.declared.records.MaybeSegment.{MaybeSegment}
+use Rattle.frame.specs.declared.records.MaybeSegment.the-variants as segment
+use Rattle.frame.specs.declared.records.MacroblockModes.{MacroblockModes}
 
 -- Document 01's entry of a macroblock, as what it says: a segment above 3 says 3, and any flag but 0 says that there are coefficients.
 pub record Entry : Type 0 where
@@ -45,8 +48,42 @@ unfoldable pub interEntry : InterLists → (m : ℕ) → Entry
 interEntry l m =
     entryOf (getD (l .modes) m 0) (getD (l .segments) m 0) (getD (l .flags) m 0) (getD (l .references) m 0) (getD (l .interModes) m 0)
 
+-- ---- a list of records
+
+unfoldable pub segmentByte : MaybeSegment → ℕ
+segmentByte segment.Absent = 0
+segmentByte (segment.Present n) = n
+
+-- what a record says to the inter pass, and to the key pass, which ignores reference and inter mode
+unfoldable pub interRecord : MacroblockModes → Entry
+interRecord r =
+    record {
+      mode = r .«y_mode»;
+      segment = min (segmentByte (r .«segment_id»)) 3;
+      coefficients = r .«has_coeffs»;
+      reference = r .«ref_frame»;
+      interMode = r .«inter_mode»;
+    }
+
+unfoldable pub keyRecord : MacroblockModes → Entry
+keyRecord r =
+    record {
+      mode = r .«y_mode»;
+      segment = min (segmentByte (r .«segment_id»)) 3;
+      coefficients = r .«has_coeffs»;
+      reference = reference.Absent;
+      interMode = inter.Absent;
+    }
+
+-- past a list's end: no pass looks there
+unfoldable pub noRecord : MacroblockModes
+noRecord =
+    record { «y_mode» = mode.Dc; «segment_id» = segment.Absent; «has_coeffs» = false; «ref_frame» = reference.Absent; «inter_mode» = inter.Absent }
+
+-- ---- refusals 5 and 6
+
 -- 5: a list whose length isn't n
-unfoldable pub otherLength : (n : ℕ) → List ℕ → Bool
+unfoldable pub otherLength : {X : Type 0} → (n : ℕ) → List X → Bool
 otherLength n l = not (eqb (length l) n)
 
 unfoldable pub keyOtherLength : KeyLists → (n : ℕ) → Bool
@@ -66,3 +103,39 @@ keyBadEntry l = anyOf badMode (l .modes)
 
 unfoldable pub interBadEntry : InterLists → Bool
 interBadEntry l = anyOf badMode (l .modes) || anyOf badReference (l .references) || anyOf badInterMode (l .interModes)
+
+-- ---- what the calls of each pass carry
+
+pub data KeyCarried : Type 0 where
+  byteLists : KeyLists → KeyCarried
+  records : List MacroblockModes → KeyCarried
+
+pub data InterCarried : Type 0 where
+  byteLists : InterLists → InterCarried
+  records : List MacroblockModes → InterCarried
+
+abbrev pub keyCarries : KeyCarried → (m : ℕ) → Entry
+keyCarries (KeyCarried.byteLists l) = keyEntry l
+keyCarries (KeyCarried.records rs) = λ m. keyRecord (getD rs m noRecord)
+
+abbrev pub interCarries : InterCarried → (m : ℕ) → Entry
+interCarries (InterCarried.byteLists l) = interEntry l
+interCarries (InterCarried.records rs) = λ m. interRecord (getD rs m noRecord)
+
+-- 5
+abbrev pub keyWrongLength : KeyCarried → (n : ℕ) → Bool
+keyWrongLength (KeyCarried.byteLists l) n = keyOtherLength l n
+keyWrongLength (KeyCarried.records rs) n = otherLength n rs
+
+abbrev pub interWrongLength : InterCarried → (n : ℕ) → Bool
+interWrongLength (InterCarried.byteLists l) n = interOtherLength l n
+interWrongLength (InterCarried.records rs) n = otherLength n rs
+
+-- 6: records have no case that it refuses
+abbrev pub keyRefuses : KeyCarried → Bool
+keyRefuses (KeyCarried.byteLists l) = keyBadEntry l
+keyRefuses (KeyCarried.records rs) = false
+
+abbrev pub interRefuses : InterCarried → Bool
+interRefuses (InterCarried.byteLists l) = interBadEntry l
+interRefuses (InterCarried.records rs) = false

@@ -2,10 +2,25 @@
 pub mod Steps
 pub mod Planes
 pub mod Edges
-pub mod EdgeCode
 pub mod Macroblock
 pub mod Reach
 pub mod Examples
 pub mod Refusals
 pub mod Entries
 pub mod Pass
+pub mod Calls
+pub mod FinalRows
+-- how the arguments and the answer of a function are read as a call and its outcome
+pub mod Layout
+pub mod PassCalls
+pub mod Answers
+-- lists of calls, computed
+pub mod ExampleCalls
+pub mod CallExamples
+-- what private functions promise each other: steps of the proof, which no public contract cites
+pub mod EdgeCode
+pub mod Runs
+pub mod Limits
+pub mod PlaneCode
+pub mod Step
+pub mod Planner

@@ -1,6 +1,5 @@
 -- A pass as its callers see it: what one call names, refuses, answers and leaves. One text for the key pass and the inter pass: a `Pass` says in what they differ.
 use mathlib.Core.Bool.{Bool, true, false, cond, _||_}
-use mathlib.Core.List.{List}
 use Prim.Native.Nat.{ℕ, _+_, _-_, min}
 use lib.Dec.{eqb, ltb}
 use Rattle.kernels.specs.Answers.{Outcome, gives, refuses}
@@ -15,7 +14,7 @@ use Rattle.frame.specs.Steps.{steps}
 use Rattle.frame.specs.Planes.{Planes, Grid, macroblocks}
 use Rattle.frame.specs.Macroblock.{Plan, leave, filter, filterMacroblock}
 use Rattle.frame.specs.Refusals.{zeroGrid, afterGrid}
-use Rattle.frame.specs.Entries.{Entry, KeyLists, InterLists, keyEntry, interEntry, keyOtherLength, interOtherLength, keyBadEntry, interBadEntry}
+use Rattle.frame.specs.Entries.{Entry, KeyCarried, InterCarried, keyCarries, interCarries, keyWrongLength, interWrongLength, keyRefuses, interRefuses}
 
 -- ---- the plan of a macroblock
 
@@ -63,10 +62,10 @@ pub record Pass : Type 1 where
   pub plan : FrameFilterConfig → Entry → Plan
 
 abbrev pub keyPass : Pass
-keyPass = record { Carried = KeyLists; entry = keyEntry; otherLength = keyOtherLength; badEntry = keyBadEntry; plan = keyPlan }
+keyPass = record { Carried = KeyCarried; entry = keyCarries; otherLength = keyWrongLength; badEntry = keyRefuses; plan = keyPlan }
 
 abbrev pub interPass : Pass
-interPass = record { Carried = InterLists; entry = interEntry; otherLength = interOtherLength; badEntry = interBadEntry; plan = interPlan }
+interPass = record { Carried = InterCarried; entry = interCarries; otherLength = interWrongLength; badEntry = interRefuses; plan = interPlan }
 
 -- ---- a call
 

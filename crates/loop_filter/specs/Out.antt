@@ -1,8 +1,18 @@
 -- An out-parameter: what it holds when the entry returns.
 use Rattle.kernels.specs.Answers.{Outcome, gives, refuses}
 use Prim.Native.Nat.{ℕ}
+use Rattle.frame.specs.Pass.{Progress}
 
 -- what the call gives, or what was there before where it refuses
 unfoldable pub outOf : {X : Type 0} → Outcome X → X → X
 outOf (gives x) old = x
 outOf (refuses n) old = old
+
+-- the two numbers of a pass's answer
+unfoldable pub countOut : Outcome Progress → ℕ → ℕ
+countOut (gives p) old = p .count
+countOut (refuses n) old = old
+
+unfoldable pub nextOut : Outcome Progress → ℕ → ℕ
+nextOut (gives p) old = p .next
+nextOut (refuses n) old = old

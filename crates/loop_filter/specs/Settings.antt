@@ -3,6 +3,7 @@ use mathlib.Core.Bool.{Bool}
 use mathlib.Core.List.{[], _∷_}
 use Prim.Native.Nat.{ℕ}
 use lib.IntN.{ℤ}
+use Rattle.frame.specs.declared.layout.PlaneLayout.{PlaneLayout}
 use Rattle.levels.specs.declared.config.FrameFilterConfig.{FrameFilterConfig}
 
 abbrev pub settingsOf :
@@ -26,3 +27,6 @@ settingsOf simple key level sharpness segmentation absolute s0 s1 s2 s3 deltas c
       «other_mv_mode_delta» = other;
       «split_mv_mode_delta» = split;
     }
+
+abbrev pub layoutOf : (columns rows lumaStride chromaStride : ℕ) → PlaneLayout
+layoutOf columns rows lumaStride chromaStride = record { «mb_cols» = columns; «mb_rows» = rows; «y_stride» = lumaStride; «uv_stride» = chromaStride }

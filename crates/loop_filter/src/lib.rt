@@ -1,5 +1,6 @@
 // The C entries of the loop filter, what hosts link. A slice crosses as a pointer and a length, `&mut T` as a pointer.
 pub mod level;
 pub mod numbers;
+pub mod passes;
 pub mod segments;
 mod settings;

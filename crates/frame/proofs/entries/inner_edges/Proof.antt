@@ -1,0 +1,10 @@
+-- `frame::entries::inner_edges` meets its contract. Assumes nothing.
+use Rattle.frame.proofs.EntryLaws as L
+use Rattle.frame.proofs.entries.inner_edges.Statement.{statement}
+use Rattle.frame.proofs.entries.inner_edges.Tie as tie
+
+returns : tie.Need-returns
+returns c = L.inner-edges (c .args .mode) (c .args .flag)
+
+pub inner-edges-spec : {M : Type 1} → statement M
+inner-edges-spec = tie.close (tie.spec returns)

@@ -1,0 +1,12 @@
+-- `frame::plan::zero_grid` meets its contract. Assumes nothing.
+use mathlib.Core.Path.{refl}
+use Rattle.frame.specs.Refusals.{zeroGrid}
+use Rattle.frame.proofs.plan.zero_grid.Statement.{statement}
+use Rattle.frame.proofs.plan.zero_grid.Tie as tie
+
+returns : tie.Need-returns
+unfolding zeroGrid
+returns c = refl
+
+pub zero-grid-spec : {M : Type 1} → statement M
+zero-grid-spec = tie.close (tie.spec returns)

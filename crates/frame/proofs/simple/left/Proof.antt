@@ -1,0 +1,43 @@
+-- `frame::simple::left` meets its contract.
+-- Assumes nothing.
+use borrow.Author.Needs.{needs}
+use mathlib.Core.Path.{sym, ap, _∙_}
+use mathlib.Core.Bool.{Bool, cond}
+use Prim.Native.Nat.{_-_}
+use native.Mathlib.Omega.{arith}
+use lib.Dec.{ltb}
+use lib.ListN.{length}
+use denote.Ref.{now}
+use borrow.Author.Tests.{lt-ltb, le-ltb}
+use Rattle.frame.specs.Edges.{vertical}
+use Rattle.frame.specs.EdgeCode.{edgeFrom}
+use Rattle.kernels.specs.Segment.{simpleSegment}
+use Rattle.frame.specs.PlaneCode.{leftFrom}
+use Rattle.frame.proofs.simple.left.Statement.{statement}
+use Rattle.frame.proofs.simple.left.Tie as tie
+
+sub-v-simple : tie.Need-sub-v-simple
+sub-v-simple c = omega (arith, c .before .before .before .pre .1 (c .before .if1 .taken))
+
+v-simple-requires : tie.Need-v-simple-requires
+v-simple-requires c κs = search needs
+
+same-length : tie.Need-same-length
+same-length c = search needs
+
+returns : tie.Need-returns
+unfolding leftFrom
+returns c =
+    let j = c .before .before in
+    let t = j .before .before in
+    let x = t .before .before .args in
+    j .v-simple .ensures ∙ sym (ap (λ (u : Bool). cond u (edgeFrom vertical (simpleSegment (x .edge)) (x .stride) (x .corner - 2) 16 (now (x .plane))) (now (x .plane))) (lt-ltb 0 (x .column) (t .if1 .taken)))
+
+returns-2 : tie.Need-returns-2
+unfolding leftFrom
+returns-2 c =
+    let x = c .before .before .args in
+    sym (ap (λ (u : Bool). cond u (edgeFrom vertical (simpleSegment (x .edge)) (x .stride) (x .corner - 2) 16 (now (x .plane))) (now (x .plane))) (le-ltb 0 (x .column) (c .if1 .left)))
+
+pub left-spec : {M : Type 1} → statement M
+left-spec = tie.close (tie.spec sub-v-simple v-simple-requires same-length returns returns-2)

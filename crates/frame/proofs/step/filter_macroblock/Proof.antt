@@ -1,0 +1,67 @@
+-- `frame::step::filter_macroblock` meets its contract.
+-- Assumes nothing.
+use borrow.Author.Needs.{needs}
+use mathlib.Core.Path.{sym, ap, _∙_}
+use mathlib.Core.Bool.{Bool, cond}
+use lib.ListN.{length}
+use lib.Dec.{eqb}
+use denote.Ref.{now}
+use Rattle.kernels.specs.declared.limits.LoopFilterParams.{LoopFilterParams}
+use Rattle.frame.specs.Layout.{gridOf, planesOf}
+use Rattle.frame.specs.Macroblock.{leave, filterMacroblock}
+use borrow.Author.Tests.{eq-eqb, ne-eqb}
+use Rattle.kernels.specs.Limits.{derive}
+use Rattle.frame.specs.Pass.{planWith, planAt}
+use Rattle.frame.proofs.Parts.{macroblock-parts, leave-at}
+use Rattle.frame.specs.Edges.{places}
+use Rattle.frame.proofs.step.filter_macroblock.Statement.{statement}
+use Rattle.frame.proofs.step.filter_macroblock.Tie as tie
+
+derive-requires : tie.Need-derive-requires
+derive-requires c κs = search needs
+
+filter-with-requires : tie.Need-filter-with-requires
+filter-with-requires c κs = search needs
+
+same-length : tie.Need-same-length
+same-length c = search needs
+
+same-length-2 : tie.Need-same-length-2
+same-length-2 c = search needs
+
+same-length-3 : tie.Need-same-length-3
+same-length-3 c = search needs
+
+returns : tie.Need-returns
+unfolding planAt
+returns c =
+    let j = c .before .before .before .before .before .before in
+    let t = j .before .before .before .before in
+    let d = t .before in
+    let x = d .before .before .before .before .args in
+    let p = planesOf (now (x .y)) (now (x .u)) (now (x .v)) in
+    let g = gridOf (x .layout) in
+    j .filter-with .ensures
+    ∙ ap (λ (q : LoopFilterParams). filterMacroblock g (λ _. planWith (x .config .«simple») q (x .inside)) (x .m) p) (d .derive .ensures)
+    ∙ ap (λ (b : Bool). filterMacroblock g (λ _. cond b leave (planWith (x .config .«simple») (derive (x .level) (x .config .«sharpness_level») (x .config .«key_frame»)) (x .inside))) (x .m) p) (sym (ne-eqb (x .level) 0 (t .if1 .taken)))
+
+returns-2 : tie.Need-returns-2
+unfolding planAt
+returns-2 c =
+    let x = c .before .before .before .before .before .args in
+    let p = planesOf (now (x .y)) (now (x .u)) (now (x .v)) in
+    let g = gridOf (x .layout) in
+    sym (macroblock-parts g (λ _. leave) (x .m) p ∙ leave-at g _ _ places p)
+    ∙ ap (λ (b : Bool). filterMacroblock g (λ _. cond b leave (planWith (x .config .«simple») (derive (x .level) (x .config .«sharpness_level») (x .config .«key_frame»)) (x .inside))) (x .m) p) (sym (eq-eqb (x .level) 0 (c .if1 .left)))
+
+pub filter-macroblock-spec : {M : Type 1} → statement M
+filter-macroblock-spec =
+    tie.close
+    (tie.spec
+    derive-requires
+    filter-with-requires
+    same-length
+    same-length-2
+    same-length-3
+    returns
+    returns-2)

@@ -1,0 +1,174 @@
+// The passes over a frame, in raster order, halted and resumed by start and allowance (document 01, Passes and Halting).
+use crate::answers::PassAnswer;
+use crate::entries::alike3;
+use crate::entries::alike5;
+use crate::entries::any_above;
+use crate::entries::bad_entries;
+use crate::entries::inner_edges;
+use crate::layout::PlaneLayout;
+use crate::plan::plan_pass;
+use crate::step::filter_macroblock;
+use levels::config::FrameFilterConfig;
+use levels::level::key_mb_level;
+use levels::level::mb_level;
+ghost use mathlib.Core.Path.{_≡_};
+ghost use Prim.Native.Nat.{_-_};
+ghost use Rattle.frame.specs.Answers.{passOutcome};
+ghost use Rattle.frame.specs.Entries.{keyEntry, interEntry};
+ghost use Rattle.frame.specs.Layout.{gridOf, planesOf};
+ghost use Rattle.frame.specs.Pass.{keyPass, interPass, answer, planesAfter, step};
+ghost use Rattle.frame.specs.PassCalls.{keyCall, interCall, keyLists, interLists};
+ghost use Rattle.frame.specs.Step.{KeyRange, InterRange};
+ghost use Rattle.frame.specs.Steps.{steps};
+
+// Macroblocks `from` to `to` - 1 of the key pass.
+fn filter_key_range(
+    y: &mut [u8],
+    u: &mut [u8],
+    v: &mut [u8],
+    layout: PlaneLayout,
+    modes: &[u8],
+    segments: &[u8],
+    flags: &[u8],
+    config: FrameFilterConfig,
+    from: usize,
+    to: usize,
+)
+    requires { ⌜ KeyRange layout (planesOf (now y) (now u) (now v)) (keyLists (now modes) (now segments) (now flags)) from to ⌝ }
+    ensures { λ _. ⌜ planesOf (now (y .exit)) (now (u .exit)) (now (v .exit)) ≡ steps (step keyPass (gridOf layout) config (keyEntry (keyLists (now (modes .entry)) (now (segments .entry)) (now (flags .entry))))) from (to - from) (planesOf (now (y .entry)) (now (u .entry)) (now (v .entry))) ⌝ }
+{
+    let mut m = from;
+    while m < to {
+        let mode = modes[m];
+        let level = key_mb_level(config, segments[m], mode);
+        let inside = inner_edges(mode, flags[m]);
+        filter_macroblock(y, u, v, layout, config, m, level, inside);
+        m += 1;
+    }
+}
+
+// Macroblocks `from` to `to` - 1 of the inter pass.
+fn filter_inter_range(
+    y: &mut [u8],
+    u: &mut [u8],
+    v: &mut [u8],
+    layout: PlaneLayout,
+    modes: &[u8],
+    segments: &[u8],
+    flags: &[u8],
+    references: &[u8],
+    inter_modes: &[u8],
+    config: FrameFilterConfig,
+    from: usize,
+    to: usize,
+)
+    requires { ⌜ InterRange layout (planesOf (now y) (now u) (now v)) (interLists (now modes) (now segments) (now flags) (now references) (now «inter_modes»)) from to ⌝ }
+    ensures { λ _. ⌜ planesOf (now (y .exit)) (now (u .exit)) (now (v .exit)) ≡ steps (step interPass (gridOf layout) config (interEntry (interLists (now (modes .entry)) (now (segments .entry)) (now (flags .entry)) (now (references .entry)) (now («inter_modes» .entry))))) from (to - from) (planesOf (now (y .entry)) (now (u .entry)) (now (v .entry))) ⌝ }
+{
+    let mut m = from;
+    while m < to {
+        let mode = modes[m];
+        let level = mb_level(config, segments[m], references[m], inter_modes[m], mode);
+        let inside = inner_edges(mode, flags[m]);
+        filter_macroblock(y, u, v, layout, config, m, level, inside);
+        m += 1;
+    }
+}
+
+// The key pass. It reads modes, segments and flags only.
+pub fn filter_frame(
+    y: &mut [u8],
+    u: &mut [u8],
+    v: &mut [u8],
+    layout: PlaneLayout,
+    modes: &[u8],
+    segments: &[u8],
+    flags: &[u8],
+    config: FrameFilterConfig,
+    start: usize,
+    allowance: usize,
+) -> PassAnswer
+    ensures answered { λ r. ⌜ passOutcome r ≡ answer keyPass (keyCall (planesOf (now (y .entry)) (now (u .entry)) (now (v .entry))) layout (keyLists (now (modes .entry)) (now (segments .entry)) (now (flags .entry))) config start allowance) ⌝ }
+    ensures filtered { λ _. ⌜ planesOf (now (y .exit)) (now (u .exit)) (now (v .exit)) ≡ planesAfter keyPass (keyCall (planesOf (now (y .entry)) (now (u .entry)) (now (v .entry))) layout (keyLists (now (modes .entry)) (now (segments .entry)) (now (flags .entry))) config start allowance) ⌝ }
+{
+    let alike = alike3(modes.len(), segments.len(), flags.len());
+    let bad = any_above(modes, 4);
+    let plan = plan_pass(
+        y.len(),
+        u.len(),
+        v.len(),
+        layout,
+        modes.len(),
+        alike,
+        bad,
+        start,
+        allowance,
+    );
+    filter_key_range(
+        y,
+        u,
+        v,
+        layout,
+        modes,
+        segments,
+        flags,
+        config,
+        plan.from,
+        plan.to,
+    );
+    plan.answer
+}
+
+// The inter pass.
+pub fn filter_inter_frame(
+    y: &mut [u8],
+    u: &mut [u8],
+    v: &mut [u8],
+    layout: PlaneLayout,
+    modes: &[u8],
+    segments: &[u8],
+    flags: &[u8],
+    references: &[u8],
+    inter_modes: &[u8],
+    config: FrameFilterConfig,
+    start: usize,
+    allowance: usize,
+) -> PassAnswer
+    ensures answered { λ r. ⌜ passOutcome r ≡ answer interPass (interCall (planesOf (now (y .entry)) (now (u .entry)) (now (v .entry))) layout (interLists (now (modes .entry)) (now (segments .entry)) (now (flags .entry)) (now (references .entry)) (now («inter_modes» .entry))) config start allowance) ⌝ }
+    ensures filtered { λ _. ⌜ planesOf (now (y .exit)) (now (u .exit)) (now (v .exit)) ≡ planesAfter interPass (interCall (planesOf (now (y .entry)) (now (u .entry)) (now (v .entry))) layout (interLists (now (modes .entry)) (now (segments .entry)) (now (flags .entry)) (now (references .entry)) (now («inter_modes» .entry))) config start allowance) ⌝ }
+{
+    let alike = alike5(
+        modes.len(),
+        segments.len(),
+        flags.len(),
+        references.len(),
+        inter_modes.len(),
+    );
+    let bad = bad_entries(modes, references, inter_modes);
+    let plan = plan_pass(
+        y.len(),
+        u.len(),
+        v.len(),
+        layout,
+        modes.len(),
+        alike,
+        bad,
+        start,
+        allowance,
+    );
+    filter_inter_range(
+        y,
+        u,
+        v,
+        layout,
+        modes,
+        segments,
+        flags,
+        references,
+        inter_modes,
+        config,
+        plan.from,
+        plan.to,
+    );
+    plan.answer
+}

@@ -1,0 +1,73 @@
+// The luma plane of a macroblock under the simple filter (RFC 6386, section 15.2), its edges in order: left border, inner vertical
+// edges, upper border, inner horizontal edges. `corner` is the index of the square's first sample.
+use crate::horizontal::h_simple;
+use crate::vertical::v_simple;
+ghost use mathlib.Core.Path.{_≡_};
+ghost use mathlib.Core.Bool.{cond};
+ghost use Prim.Native.Nat.{_+_, _*_, _-_, _≤_, _<_};
+ghost use lib.ListN.{length};
+ghost use Rattle.kernels.specs.Segment.{simpleSegment};
+ghost use Rattle.frame.specs.PlaneCode.{Square, leftFrom, topFrom, threeVertical, threeHorizontal, lumaFrom};
+
+fn left(plane: &mut [u8], stride: usize, corner: usize, column: usize, edge: u8)
+    requires { ⌜ corner + 15 * stride + 16 ≤ length (now plane) ⌝ }
+    requires { ⌜ (0 < column → 4 ≤ corner) ⌝ }
+    ensures { λ _. ⌜ now (plane .exit) ≡ leftFrom (simpleSegment edge) 2 16 stride corner column (now (plane .entry)) ⌝ }
+{
+    if 0 < column {
+        v_simple(plane, stride, corner - 2, edge);
+    }
+}
+
+fn inner_vertical(plane: &mut [u8], stride: usize, first: usize, edge: u8, inside: bool)
+    requires { ⌜ first + 15 * stride + 12 ≤ length (now plane) ⌝ }
+    ensures { λ _. ⌜ now (plane .exit) ≡ cond inside (threeVertical (simpleSegment edge) stride first (now (plane .entry))) (now (plane .entry)) ⌝ }
+{
+    if inside {
+        v_simple(plane, stride, first, edge);
+        v_simple(plane, stride, first + 4, edge);
+        v_simple(plane, stride, first + 8, edge);
+    }
+}
+
+fn top(plane: &mut [u8], stride: usize, corner: usize, row: usize, edge: u8)
+    requires { ⌜ corner + 15 * stride + 16 ≤ length (now plane) ⌝ }
+    requires { ⌜ 16 ≤ stride ⌝ }
+    requires { ⌜ (0 < row → 4 * stride ≤ corner) ⌝ }
+    ensures { λ _. ⌜ now (plane .exit) ≡ topFrom (simpleSegment edge) 2 16 stride corner row (now (plane .entry)) ⌝ }
+{
+    if 0 < row {
+        h_simple(plane, stride, corner - 2 * stride, edge);
+    }
+}
+
+fn inner_horizontal(plane: &mut [u8], stride: usize, first: usize, edge: u8, inside: bool)
+    requires { ⌜ first + 11 * stride + 16 ≤ length (now plane) ⌝ }
+    requires { ⌜ 16 ≤ stride ⌝ }
+    ensures { λ _. ⌜ now (plane .exit) ≡ cond inside (threeHorizontal (simpleSegment edge) stride first (now (plane .entry))) (now (plane .entry)) ⌝ }
+{
+    if inside {
+        h_simple(plane, stride, first, edge);
+        h_simple(plane, stride, first + 4 * stride, edge);
+        h_simple(plane, stride, first + 8 * stride, edge);
+    }
+}
+
+pub fn luma(
+    plane: &mut [u8],
+    stride: usize,
+    corner: usize,
+    row: usize,
+    column: usize,
+    outer: u8,
+    inner: u8,
+    inside: bool,
+)
+    requires { ⌜ Square 16 stride corner row column (length (now plane)) ⌝ }
+    ensures { λ _. ⌜ now (plane .exit) ≡ lumaFrom (simpleSegment outer) (simpleSegment inner) inside 2 stride corner (corner + 2) (corner + 2 * stride) row column (now (plane .entry)) ⌝ }
+{
+    left(plane, stride, corner, column, outer);
+    inner_vertical(plane, stride, corner + 2, inner, inside);
+    top(plane, stride, corner, row, outer);
+    inner_horizontal(plane, stride, corner + 2 * stride, inner, inside);
+}

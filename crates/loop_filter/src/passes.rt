@@ -1,14 +1,16 @@
 // C entries: the passes over a frame. Settings cross as numbers.
 use crate::settings::settings;
 use frame::answers::PassAnswer;
+use frame::final_rows::FinalRowsAnswer;
 use frame::layout::PlaneLayout;
 ghost use mathlib.Core.Path.{_≡_};
 ghost use Rattle.kernels.specs.Answers.{numberOf};
 ghost use Rattle.frame.specs.Answers.{passOutcome};
-ghost use Rattle.frame.specs.Layout.{planesOf};
+ghost use Rattle.frame.specs.FinalRows.{finalRows};
+ghost use Rattle.frame.specs.Layout.{gridOf, planesOf};
 ghost use Rattle.frame.specs.Pass.{keyPass, interPass, answer, planesAfter};
 ghost use Rattle.frame.specs.PassCalls.{keyCall, interCall, keyLists, interLists};
-ghost use Rattle.loop_filter.specs.Out.{countOut, nextOut};
+ghost use Rattle.loop_filter.specs.Out.{countOut, nextOut, lumaOut, chromaOut};
 ghost use Rattle.loop_filter.specs.Settings.{settingsOf, layoutOf};
 
 // 0 with the count and the next start, or the number of the refusal.
@@ -202,4 +204,39 @@ pub extern "C" fn vp8lf_filter_inter_frame(
         allowance,
     );
     tell(answer, count, next)
+}
+
+// The rows go through `luma` and `chroma`, which a refusal leaves alone.
+#[no_mangle]
+pub extern "C" fn vp8lf_final_rows(
+    mb_cols: usize,
+    mb_rows: usize,
+    y_stride: usize,
+    uv_stride: usize,
+    start: usize,
+    luma: &mut usize,
+    chroma: &mut usize,
+) -> u8
+    ensures { λ r. ⌜ r ≡ numberOf (finalRows (gridOf (layoutOf «mb_cols» «mb_rows» «y_stride» «uv_stride»)) start) ⌝ }
+    ensures { λ _. ⌜ now (luma .exit) ≡ lumaOut (finalRows (gridOf (layoutOf «mb_cols» «mb_rows» «y_stride» «uv_stride»)) start) (now (luma .entry)) ⌝ }
+    ensures { λ _. ⌜ now (chroma .exit) ≡ chromaOut (finalRows (gridOf (layoutOf «mb_cols» «mb_rows» «y_stride» «uv_stride»)) start) (now (chroma .entry)) ⌝ }
+{
+    let layout = PlaneLayout {
+        mb_cols: mb_cols,
+        mb_rows: mb_rows,
+        y_stride: y_stride,
+        uv_stride: uv_stride,
+    };
+    match frame::final_rows::final_rows(layout, start) {
+        FinalRowsAnswer::FinalRows {
+            luma: y,
+            chroma: uv,
+        } => {
+            *luma = y;
+            *chroma = uv;
+            0
+        }
+        FinalRowsAnswer::TooLarge => 1,
+        FinalRowsAnswer::StartBeyond => 7,
+    }
 }

@@ -1,0 +1,100 @@
+-- `loop_filter::passes::tell` meets its contract.
+-- Assumes nothing.
+use borrow.Author.Needs.{needs}
+use mathlib.Core.Path.{sym, ap}
+use denote.Ref.{now}
+use Rattle.kernels.specs.Answers.{Outcome, numberOf}
+use Rattle.frame.specs.Answers.{passOutcome}
+use Rattle.frame.specs.Pass.{Progress}
+use Rattle.loop_filter.specs.Out.{countOut, nextOut}
+use Rattle.loop_filter.proofs.passes.tell.Statement.{statement}
+use Rattle.loop_filter.proofs.passes.tell.Tie as tie
+
+enum-known-answer : tie.Need-enum-known-answer
+enum-known-answer c = search needs
+
+enum-told : tie.Need-enum-told
+enum-told c = search needs
+
+enum-told-2 : tie.Need-enum-told-2
+enum-told-2 c = search needs
+
+enum-told-3 : tie.Need-enum-told-3
+enum-told-3 c = search needs
+
+enum-told-4 : tie.Need-enum-told-4
+enum-told-4 c = search needs
+
+enum-told-5 : tie.Need-enum-told-5
+enum-told-5 c = search needs
+
+enum-told-6 : tie.Need-enum-told-6
+enum-told-6 c = search needs
+
+returns : tie.Need-returns
+unfolding numberOf passOutcome countOut nextOut
+returns c =
+    let x = c .before .before .before .args in
+    let e = sym (ap passOutcome (c .before .answer .given .1)) in
+    (ap numberOf e, (ap (λ (o : Outcome Progress). countOut o (now (x .count))) e, ap (λ (o : Outcome Progress). nextOut o (now (x .next))) e))
+
+returns-2 : tie.Need-returns-2
+unfolding numberOf passOutcome countOut nextOut
+returns-2 c =
+    let x = c .before .before .args in
+    let e = sym (ap passOutcome (c .enum-told .given .1)) in
+    (ap numberOf e, (ap (λ (o : Outcome Progress). countOut o (now (x .count))) e, ap (λ (o : Outcome Progress). nextOut o (now (x .next))) e))
+
+returns-3 : tie.Need-returns-3
+unfolding numberOf passOutcome countOut nextOut
+returns-3 c =
+    let x = c .before .before .args in
+    let e = sym (ap passOutcome (c .enum-told2 .given .1)) in
+    (ap numberOf e, (ap (λ (o : Outcome Progress). countOut o (now (x .count))) e, ap (λ (o : Outcome Progress). nextOut o (now (x .next))) e))
+
+returns-4 : tie.Need-returns-4
+unfolding numberOf passOutcome countOut nextOut
+returns-4 c =
+    let x = c .before .before .args in
+    let e = sym (ap passOutcome (c .enum-told3 .given .1)) in
+    (ap numberOf e, (ap (λ (o : Outcome Progress). countOut o (now (x .count))) e, ap (λ (o : Outcome Progress). nextOut o (now (x .next))) e))
+
+returns-5 : tie.Need-returns-5
+unfolding numberOf passOutcome countOut nextOut
+returns-5 c =
+    let x = c .before .before .args in
+    let e = sym (ap passOutcome (c .enum-told4 .given .1)) in
+    (ap numberOf e, (ap (λ (o : Outcome Progress). countOut o (now (x .count))) e, ap (λ (o : Outcome Progress). nextOut o (now (x .next))) e))
+
+returns-6 : tie.Need-returns-6
+unfolding numberOf passOutcome countOut nextOut
+returns-6 c =
+    let x = c .before .before .args in
+    let e = sym (ap passOutcome (c .enum-told5 .given .1)) in
+    (ap numberOf e, (ap (λ (o : Outcome Progress). countOut o (now (x .count))) e, ap (λ (o : Outcome Progress). nextOut o (now (x .next))) e))
+
+returns-7 : tie.Need-returns-7
+unfolding numberOf passOutcome countOut nextOut
+returns-7 c =
+    let x = c .before .before .args in
+    let e = sym (ap passOutcome (c .enum-told6 .given .1)) in
+    (ap numberOf e, (ap (λ (o : Outcome Progress). countOut o (now (x .count))) e, ap (λ (o : Outcome Progress). nextOut o (now (x .next))) e))
+
+pub tell-spec : {M : Type 1} → statement M
+tell-spec =
+    tie.close
+    (tie.spec
+    enum-known-answer
+    enum-told
+    enum-told-2
+    enum-told-3
+    enum-told-4
+    enum-told-5
+    enum-told-6
+    returns
+    returns-2
+    returns-3
+    returns-4
+    returns-5
+    returns-6
+    returns-7)

@@ -55,24 +55,15 @@ fn fill(plane: &mut [u8], half: usize) {
     }
 }
 
-// M: one macroblock of mode Dc and flag 0 keeps every sample.
-fn one_macroblock_stays(simple: bool, inter: bool, level: u8) -> bool {
-    let mut y = [0u8; 512];
-    let mut u = [0u8; 128];
-    let mut v = [0u8; 128];
-    fill(&mut y, 4);
-    fill(&mut u, 4);
-    fill(&mut v, 4);
-    let y0 = y;
-    let u0 = u;
-    let v0 = v;
+// One macroblock of mode Dc and flag 0, through one of the passes.
+fn filter_one(y: &mut [u8], u: &mut [u8], v: &mut [u8], simple: bool, inter: bool, level: u8) {
     let zero = [0u8];
     let config = settings(simple, level);
     if inter {
         filter_inter_frame(
-            &mut y,
-            &mut u,
-            &mut v,
+            y,
+            u,
+            v,
             layout(1),
             &zero,
             &zero,
@@ -84,19 +75,22 @@ fn one_macroblock_stays(simple: bool, inter: bool, level: u8) -> bool {
             1,
         );
     } else {
-        filter_frame(
-            &mut y,
-            &mut u,
-            &mut v,
-            layout(1),
-            &zero,
-            &zero,
-            &zero,
-            config,
-            0,
-            1,
-        );
+        filter_frame(y, u, v, layout(1), &zero, &zero, &zero, config, 0, 1);
     }
+}
+
+// M: it keeps every sample.
+fn one_macroblock_stays(simple: bool, inter: bool, level: u8) -> bool {
+    let mut y = [0u8; 512];
+    let mut u = [0u8; 128];
+    let mut v = [0u8; 128];
+    fill(&mut y, 4);
+    fill(&mut u, 4);
+    fill(&mut v, 4);
+    let y0 = y;
+    let u0 = u;
+    let v0 = v;
+    filter_one(&mut y, &mut u, &mut v, simple, inter, level);
     check::same(&y, &y0) & check::same(&u, &u0) & check::same(&v, &v0)
 }
 
@@ -154,9 +148,9 @@ fn show_answer(answer: PassAnswer) {
     match answer {
         PassAnswer::Done { count, next } => {
             io::write_all(STDOUT_FILENO, b"count ");
-            io::number::print_decimal(STDOUT_FILENO, count as u64);
+            io::print_decimal(STDOUT_FILENO, count as u64);
             io::write_all(STDOUT_FILENO, b", next ");
-            io::number::print_decimal(STDOUT_FILENO, next as u64);
+            io::print_decimal(STDOUT_FILENO, next as u64);
         }
         PassAnswer::StartBeyond => {
             io::write_all(STDOUT_FILENO, b"refused with 7");

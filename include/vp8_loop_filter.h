@@ -2,8 +2,9 @@
  * The VP8 loop filter (RFC 6386, section 15): the C entries of the Rattle library `loop_filter`.
  *
  * What each entry answers and writes is proved. What no proof covers, and the caller must keep:
- *   - A pointer comes with its true length: `seg` points to `seg_len` bytes that may be read and written. An
- *     out-parameter points to one number that may be written.
+ *   - A pointer comes with its true length: `seg`, `y`, `u` and `v` point to as many bytes, which may be read and
+ *     written, `coeffs` and the lists to as many numbers, which may be read. An out-parameter points to one number that
+ *     may be written.
  *   - Lent planes, scratch and out-parameters of one call do not overlap each other, and nobody else uses them while
  *     the call runs.
  *   - A bool is 0 or 1.
@@ -87,6 +88,120 @@ uint8_t vp8lf_subblock_filter(uint8_t hev_threshold, uint8_t interior_limit, uin
 /* The normal filter of a macroblock edge on a window of eight bytes: changes at most p2 to q2. */
 uint8_t vp8lf_mb_filter(uint8_t hev_threshold, uint8_t interior_limit, uint8_t edge_limit, uint8_t *seg,
                         size_t seg_len, size_t base);
+
+/*
+ * Levels (RFC 6386, sections 9.3, 9.4 and 20.6).
+ *
+ * The settings of a frame cross as numbers, always in this order. Every byte and every 16-bit number is accepted.
+ *   simple                   the simple filter, else the normal one
+ *   key_frame                the key mark: which thresholds a pass derives, in the inter pass too
+ *   loop_filter_level        the header's level
+ *   sharpness_level          the header's sharpness
+ *   segmentation_enabled     whether the segments' levels count
+ *   segment_abs              they replace the header's level, else are added to it
+ *   segment_level_0 to _3
+ *   delta_enabled            whether the deltas below are added
+ *   ref_delta_current        added for a macroblock without reference
+ *   bpred_mode_delta         and besides for such a macroblock of mode B
+ *   ref_delta_last, ref_delta_golden, ref_delta_altref
+ *                            added for a macroblock with that reference
+ *   zero_mv_mode_delta       and besides for inter mode Zero
+ *   other_mv_mode_delta      or for any inter mode but Zero and Split, and for none
+ *   split_mv_mode_delta      or for inter mode Split
+ *
+ * The bytes of a macroblock:
+ *   mode         0 Dc, 1 V, 2 H, 3 Tm, 4 B
+ *   reference    0 none, 1 Last, 2 Golden, 3 AltRef
+ *   inter mode   0 none, 1 Zero, 2 Nearest, 3 Near, 4 New, 5 Split
+ *   segment      0 to 3; larger counts as 3, and none is written 0
+ *   flag         0 no coefficients, else some
+ */
+
+/*
+ * Writes the level, 0 to 63, of a macroblock of a key frame to *level. Can be refused with VP8LF_BAD_ENTRY only.
+ */
+uint8_t vp8lf_calculate_mb_filter_level(bool simple, bool key_frame, uint8_t loop_filter_level,
+                                        uint8_t sharpness_level, bool segmentation_enabled, bool segment_abs,
+                                        int16_t segment_level_0, int16_t segment_level_1, int16_t segment_level_2,
+                                        int16_t segment_level_3, bool delta_enabled, int16_t ref_delta_current,
+                                        int16_t bpred_mode_delta, int16_t ref_delta_last, int16_t ref_delta_golden,
+                                        int16_t ref_delta_altref, int16_t zero_mv_mode_delta,
+                                        int16_t other_mv_mode_delta, int16_t split_mv_mode_delta, uint8_t segment,
+                                        uint8_t mode, uint8_t *level);
+
+/*
+ * Writes the level, 0 to 63, of a macroblock of an inter frame to *level. Can be refused with VP8LF_BAD_ENTRY only.
+ */
+uint8_t vp8lf_calculate_mb_filter_level_inter(bool simple, bool key_frame, uint8_t loop_filter_level,
+                                              uint8_t sharpness_level, bool segmentation_enabled, bool segment_abs,
+                                              int16_t segment_level_0, int16_t segment_level_1,
+                                              int16_t segment_level_2, int16_t segment_level_3, bool delta_enabled,
+                                              int16_t ref_delta_current, int16_t bpred_mode_delta,
+                                              int16_t ref_delta_last, int16_t ref_delta_golden,
+                                              int16_t ref_delta_altref, int16_t zero_mv_mode_delta,
+                                              int16_t other_mv_mode_delta, int16_t split_mv_mode_delta,
+                                              uint8_t segment, uint8_t reference, uint8_t inter_mode, uint8_t mode,
+                                              uint8_t *level);
+
+/* Whether any of coeffs_len coefficients is not 0. A macroblock's 400 are in order y2 (16), y (256), u (64), v (64). */
+bool vp8lf_mb_has_coeffs(const int16_t *coeffs, size_t coeffs_len);
+
+/*
+ * Passes (RFC 6386, section 15.1), which can be halted.
+ *
+ * The grid has mb_cols columns and mb_rows rows of macroblocks, 16 by 16 samples of y and 8 by 8 of u and of v each.
+ * Row r of a plane begins at r x its stride. Samples outside the grid never change.
+ *
+ * Each list has one byte a macroblock, in raster order; the bytes are listed above.
+ *
+ * A call filters the macroblocks start, start + 1 and so on in raster order, as many as allowance says or as are left.
+ * It writes how many it did to *count, and the start to go on from to *next. A macroblock of level 0 counts as done.
+ * A call with zero columns or rows does nothing, whatever its other arguments: *count and *next are 0.
+ * A start equal to mb_cols x mb_rows is accepted, with none left to do.
+ *
+ * Other calls can be refused, in this order: VP8LF_GRID_TOO_LARGE, VP8LF_BAD_STRIDE, VP8LF_SHORT_PLANE,
+ * VP8LF_WRONG_LENGTH, VP8LF_BAD_ENTRY (anywhere in the lists, also where the call does no macroblock),
+ * VP8LF_START_TOO_LARGE.
+ *
+ * A macroblock can reach its own square, 3 columns left of it along its rows, and 3 rows above it along its columns,
+ * inside the grid, in each plane. Once the macroblocks before *next are done, each sample that no macroblock from
+ * *next on can reach is final.
+ */
+
+/* The pass of a key frame. */
+uint8_t vp8lf_filter_frame(uint8_t *y, size_t y_len, uint8_t *u, size_t u_len, uint8_t *v, size_t v_len,
+                           size_t mb_cols, size_t mb_rows, size_t y_stride, size_t uv_stride, const uint8_t *modes,
+                           size_t modes_len, const uint8_t *segments, size_t segments_len, const uint8_t *flags,
+                           size_t flags_len, bool simple, bool key_frame, uint8_t loop_filter_level,
+                           uint8_t sharpness_level, bool segmentation_enabled, bool segment_abs,
+                           int16_t segment_level_0, int16_t segment_level_1, int16_t segment_level_2,
+                           int16_t segment_level_3, bool delta_enabled, int16_t ref_delta_current,
+                           int16_t bpred_mode_delta, int16_t ref_delta_last, int16_t ref_delta_golden,
+                           int16_t ref_delta_altref, int16_t zero_mv_mode_delta, int16_t other_mv_mode_delta,
+                           int16_t split_mv_mode_delta, size_t start, size_t allowance, size_t *count, size_t *next);
+
+/* The pass of an inter frame. */
+uint8_t vp8lf_filter_inter_frame(uint8_t *y, size_t y_len, uint8_t *u, size_t u_len, uint8_t *v, size_t v_len,
+                                 size_t mb_cols, size_t mb_rows, size_t y_stride, size_t uv_stride,
+                                 const uint8_t *modes, size_t modes_len, const uint8_t *segments,
+                                 size_t segments_len, const uint8_t *flags, size_t flags_len,
+                                 const uint8_t *references, size_t references_len, const uint8_t *inter_modes,
+                                 size_t inter_modes_len, bool simple, bool key_frame, uint8_t loop_filter_level,
+                                 uint8_t sharpness_level, bool segmentation_enabled, bool segment_abs,
+                                 int16_t segment_level_0, int16_t segment_level_1, int16_t segment_level_2,
+                                 int16_t segment_level_3, bool delta_enabled, int16_t ref_delta_current,
+                                 int16_t bpred_mode_delta, int16_t ref_delta_last, int16_t ref_delta_golden,
+                                 int16_t ref_delta_altref, int16_t zero_mv_mode_delta, int16_t other_mv_mode_delta,
+                                 int16_t split_mv_mode_delta, size_t start, size_t allowance, size_t *count,
+                                 size_t *next);
+
+/*
+ * Writes how many rows of samples, from the top, are final once the macroblocks before start are done: of y to *luma,
+ * of u and of v to *chroma. The strides are not read. Zero columns or rows give 0 and 0. Other calls can be refused,
+ * in this order: VP8LF_GRID_TOO_LARGE, VP8LF_START_TOO_LARGE.
+ */
+uint8_t vp8lf_final_rows(size_t mb_cols, size_t mb_rows, size_t y_stride, size_t uv_stride, size_t start,
+                         size_t *luma, size_t *chroma);
 
 #ifdef __cplusplus
 }

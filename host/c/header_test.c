@@ -1,6 +1,6 @@
 /*
- * Compiles against include/vp8_loop_filter.h and calls each entry: the bench figures A to F and I to L of document 01,
- * the ends of the numbers, and the refusal of each kernel.
+ * Compiles against include/vp8_loop_filter.h and calls each entry: the bench figures A to O of document 01, the ends of
+ * the numbers, and every refusal.
  */
 #include "vp8_loop_filter.h"
 
@@ -127,6 +127,235 @@ static void refused(size_t len, size_t base)
     check_bytes("the bytes of a refused call", lent, seg, 8);
 }
 
+/* The settings of the figures G and H, with every number that they leave open different. */
+#define SETTINGS(header, adds, delta) \
+    false, true, header, 0, true, false, adds, 1, 2, 3, true, delta, 4, 5, 6, 7, 8, 9, 10
+
+static uint8_t level_out;
+
+static long long key_level(uint8_t header, int16_t adds, int16_t delta, uint8_t segment, uint8_t mode)
+{
+    level_out = 99;
+    return vp8lf_calculate_mb_filter_level(SETTINGS(header, adds, delta), segment, mode, &level_out);
+}
+
+static long long inter_level(uint8_t segment, uint8_t reference, uint8_t inter_mode, uint8_t mode)
+{
+    level_out = 99;
+    return vp8lf_calculate_mb_filter_level_inter(SETTINGS(10, -20, 5), segment, reference, inter_mode, mode,
+                                                 &level_out);
+}
+
+static void levels(void)
+{
+    check("G", VP8LF_OK, key_level(10, -20, 5, 0, 0));
+    check("G", 5, level_out);
+    check("H", VP8LF_OK, key_level(60, 10, -10, 0, 0));
+    check("H", 53, level_out);
+    check("mode B", VP8LF_OK, key_level(10, -20, 5, 0, 4));
+    check("its level", 9, level_out);
+    check("segment 255", VP8LF_OK, key_level(10, -20, 5, 255, 0));
+    check("its level, that of segment 3", 18, level_out);
+    check("mode 5", VP8LF_BAD_ENTRY, key_level(10, -20, 5, 0, 5));
+    check("the level of a refused call", 99, level_out);
+
+    check("no reference", VP8LF_OK, inter_level(0, 0, 0, 0));
+    check("its level, that of G", 5, level_out);
+    check("AltRef and Split", VP8LF_OK, inter_level(1, 3, 5, 4));
+    check("its level", 28, level_out);
+    check("reference 4", VP8LF_BAD_ENTRY, inter_level(0, 4, 0, 0));
+    check("inter mode 6", VP8LF_BAD_ENTRY, inter_level(0, 0, 6, 0));
+    check("mode 255", VP8LF_BAD_ENTRY, inter_level(0, 0, 0, 255));
+    check("the level of a refused call", 99, level_out);
+}
+
+static void coefficients(void)
+{
+    int16_t coeffs[400] = {0};
+    check("no coefficient", false, vp8lf_mb_has_coeffs(coeffs, 400));
+    coeffs[399] = -256;
+    check("the last coefficient", true, vp8lf_mb_has_coeffs(coeffs, 400));
+    check("all but the last", false, vp8lf_mb_has_coeffs(coeffs, 399));
+    check("the last alone", true, vp8lf_mb_has_coeffs(coeffs + 399, 1));
+    check("an empty list", false, vp8lf_mb_has_coeffs(coeffs + 399, 0));
+}
+
+/* A grid of 2 columns by 1 row, every macroblock of mode Dc with coefficients; and a call on it. */
+struct picture {
+    uint8_t y[16 * 32], u[8 * 16], v[8 * 16];
+    uint8_t modes[3], segments[3], flags[3], references[3], inter_modes[3];
+};
+
+struct call {
+    size_t y_len, u_len, v_len, mb_cols, mb_rows, y_stride, uv_stride;
+    size_t modes_len, segments_len, flags_len, references_len, inter_modes_len;
+    size_t start, allowance;
+};
+
+static const struct call whole = {16 * 32, 8 * 16, 8 * 16, 2, 1, 32, 16, 2, 2, 2, 2, 2, 0, 2};
+static size_t count_out, next_out;
+
+/* Samples that rise by 8 every 4 columns, up to 48, and then fall back. */
+static struct picture sawtooth(void)
+{
+    struct picture p;
+    memset(&p, 0, sizeof p);
+    for (size_t i = 0; i < sizeof p.y; i++)
+        p.y[i] = (uint8_t)(100 + i % 32 / 4 % 7 * 8);
+    for (size_t i = 0; i < sizeof p.u; i++)
+        p.u[i] = p.v[i] = (uint8_t)(100 + i % 16 / 4 % 7 * 8);
+    memset(p.flags, 1, sizeof p.flags);
+    return p;
+}
+
+/* Level 63 for every macroblock, in either pass. */
+#define AT_63(simple) simple, true, 63, 0, false, false, 0, 0, 0, 0, false, 0, 0, 0, 0, 0, 0, 0, 0
+
+static long long key_pass(struct picture *p, struct call c)
+{
+    count_out = next_out = 99;
+    return vp8lf_filter_frame(p->y, c.y_len, p->u, c.u_len, p->v, c.v_len, c.mb_cols, c.mb_rows, c.y_stride,
+                              c.uv_stride, p->modes, c.modes_len, p->segments, c.segments_len, p->flags, c.flags_len,
+                              AT_63(false), c.start, c.allowance, &count_out, &next_out);
+}
+
+static long long inter_pass(struct picture *p, struct call c)
+{
+    count_out = next_out = 99;
+    return vp8lf_filter_inter_frame(p->y, c.y_len, p->u, c.u_len, p->v, c.v_len, c.mb_cols, c.mb_rows, c.y_stride,
+                                    c.uv_stride, p->modes, c.modes_len, p->segments, c.segments_len, p->flags,
+                                    c.flags_len, p->references, c.references_len, p->inter_modes, c.inter_modes_len,
+                                    AT_63(false), c.start, c.allowance, &count_out, &next_out);
+}
+
+typedef long long (*pass)(struct picture *, struct call);
+
+static bool same_columns(const uint8_t *a, const uint8_t *b, size_t stride, size_t rows, size_t from, size_t to)
+{
+    for (size_t i = 0; i < stride * rows; i++)
+        if (i % stride >= from && i % stride < to && a[i] != b[i])
+            return false;
+    return true;
+}
+
+/* M: one macroblock of mode Dc without coefficients. */
+static void figure_m(void)
+{
+    const struct call one = {16 * 32, 8 * 16, 8 * 16, 1, 1, 32, 16, 1, 1, 1, 1, 1, 0, 1};
+    const struct picture before = sawtooth();
+    struct picture p = before;
+    for (int header = 0; header < 512; header++) {
+        p.flags[0] = 0;
+        count_out = next_out = 99;
+        check("M", VP8LF_OK,
+              vp8lf_filter_frame(p.y, one.y_len, p.u, one.u_len, p.v, one.v_len, 1, 1, 32, 16, p.modes, 1, p.segments,
+                                 1, p.flags, 1, header % 2 == 1, true, (uint8_t)(header / 2), 0, false, false, 0, 0,
+                                 0, 0, false, 0, 0, 0, 0, 0, 0, 0, 0, 0, 1, &count_out, &next_out));
+        check("its count", 1, (long long)count_out);
+        p.flags[0] = 1;
+        check_bytes("its planes", (const uint8_t *)&before, (const uint8_t *)&p, sizeof p);
+    }
+}
+
+/* N and O, on a grid of 2 columns by 1 row. */
+static void figures_n_and_o(pass filter)
+{
+    struct picture halted = sawtooth(), unbroken = halted, after_one;
+    struct call c = whole;
+    check("one unbroken call", VP8LF_OK, filter(&unbroken, c));
+    check("its count", 2, (long long)count_out);
+    check("its next start", 2, (long long)next_out);
+
+    c.allowance = 1;
+    check("N, the first call", VP8LF_OK, filter(&halted, c));
+    check("its count", 1, (long long)count_out);
+    check("its next start", 1, (long long)next_out);
+    check("luma columns 0 to 12 are final", true, same_columns(halted.y, unbroken.y, 32, 16, 0, 13));
+    check("luma column 13 is not", false, same_columns(halted.y, unbroken.y, 32, 16, 13, 14));
+    check("chroma columns 0 to 4 are final", true,
+          same_columns(halted.u, unbroken.u, 16, 8, 0, 5) && same_columns(halted.v, unbroken.v, 16, 8, 0, 5));
+    check("chroma column 5 is not", false, same_columns(halted.u, unbroken.u, 16, 8, 5, 6));
+    after_one = halted;
+    c.start = 1;
+    c.allowance = SIZE_MAX;
+    check("N, the second call", VP8LF_OK, filter(&halted, c));
+    check("its count", 1, (long long)count_out);
+    check("its next start", 2, (long long)next_out);
+    check_bytes("two calls are one", (const uint8_t *)&unbroken, (const uint8_t *)&halted, sizeof halted);
+    check("the second changes something", true, memcmp(&after_one, &halted, sizeof halted) != 0);
+
+    c.start = 2;
+    check("O, start 2", VP8LF_OK, filter(&halted, c));
+    check("its count", 0, (long long)count_out);
+    check("its next start", 2, (long long)next_out);
+    c.start = 3;
+    check("O, start 3", VP8LF_START_TOO_LARGE, filter(&halted, c));
+    check_bytes("O changes nothing", (const uint8_t *)&unbroken, (const uint8_t *)&halted, sizeof halted);
+}
+
+static void refused_pass(const char *what, long long number, pass filter, struct picture p, struct call c)
+{
+    struct picture lent = p;
+    check(what, number, filter(&p, c));
+    check_bytes("the planes and lists of a refused call", (const uint8_t *)&lent, (const uint8_t *)&p, sizeof p);
+    if (number != VP8LF_OK) {
+        check("the count of a refused call", 99, (long long)count_out);
+        check("the next start of a refused call", 99, (long long)next_out);
+    }
+}
+
+static void refused_passes(pass filter, bool inter)
+{
+    const struct picture p = sawtooth();
+    struct picture bad;
+    struct call c;
+#define REFUSED(number, change) (c = whole, c.change, refused_pass(#change, number, filter, p, c))
+    REFUSED(VP8LF_GRID_TOO_LARGE, mb_cols = 1025);
+    REFUSED(VP8LF_GRID_TOO_LARGE, mb_rows = SIZE_MAX);
+    REFUSED(VP8LF_BAD_STRIDE, y_stride = 31);
+    REFUSED(VP8LF_BAD_STRIDE, y_stride = 65537);
+    REFUSED(VP8LF_BAD_STRIDE, uv_stride = 15);
+    REFUSED(VP8LF_BAD_STRIDE, uv_stride = SIZE_MAX);
+    REFUSED(VP8LF_SHORT_PLANE, y_len = 16 * 32 - 1);
+    REFUSED(VP8LF_SHORT_PLANE, u_len = 8 * 16 - 1);
+    REFUSED(VP8LF_SHORT_PLANE, v_len = 0);
+    REFUSED(VP8LF_WRONG_LENGTH, modes_len = 1);
+    REFUSED(VP8LF_WRONG_LENGTH, segments_len = 3);
+    REFUSED(VP8LF_WRONG_LENGTH, flags_len = 0);
+    REFUSED(VP8LF_START_TOO_LARGE, start = 3);
+    bad = p;
+    bad.modes[1] = 5;
+    c = whole;
+    c.allowance = 1;
+    refused_pass("mode 5 beyond the allowance", VP8LF_BAD_ENTRY, filter, bad, c);
+    c.start = SIZE_MAX;
+    refused_pass("mode 5 and a start too large", VP8LF_BAD_ENTRY, filter, bad, c);
+    c.flags_len = 1;
+    refused_pass("mode 5 and a list too short", VP8LF_WRONG_LENGTH, filter, bad, c);
+    c.mb_rows = 0;
+    refused_pass("a zero grid and all of these", VP8LF_OK, filter, bad, c);
+    check("its count", 0, (long long)count_out);
+    check("its next start", 0, (long long)next_out);
+    if (inter) {
+        REFUSED(VP8LF_WRONG_LENGTH, references_len = 1);
+        REFUSED(VP8LF_WRONG_LENGTH, inter_modes_len = 3);
+        bad = p;
+        bad.references[0] = 4;
+        refused_pass("reference 4", VP8LF_BAD_ENTRY, filter, bad, whole);
+        bad = p;
+        bad.inter_modes[0] = 6;
+        refused_pass("inter mode 6", VP8LF_BAD_ENTRY, filter, bad, whole);
+    }
+}
+
+static void final_rows(size_t mb_cols, size_t mb_rows, size_t start, long long number, size_t luma, size_t chroma)
+{
+    size_t luma_out = 99, chroma_out = 99;
+    check("final_rows", number, vp8lf_final_rows(mb_cols, mb_rows, 0, SIZE_MAX, start, &luma_out, &chroma_out));
+    check("its luma rows", (long long)luma, (long long)luma_out);
+    check("its chroma rows", (long long)chroma, (long long)chroma_out);
+}
+
 int main(void)
 {
     numbers();
@@ -144,6 +373,20 @@ int main(void)
     refused(8, 8);
     refused(8, SIZE_MAX - 3);
     refused(8, SIZE_MAX);
+    levels();
+    coefficients();
+    figure_m();
+    figures_n_and_o(key_pass);
+    figures_n_and_o(inter_pass);
+    refused_passes(key_pass, false);
+    refused_passes(inter_pass, true);
+    final_rows(2, 3, 0, VP8LF_OK, 0, 0);
+    final_rows(2, 3, 1, VP8LF_OK, 0, 0);
+    final_rows(2, 3, 3, VP8LF_OK, 13, 5);
+    final_rows(2, 3, 6, VP8LF_OK, 48, 24);
+    final_rows(2, 3, 7, VP8LF_START_TOO_LARGE, 99, 99);
+    final_rows(1025, 1, SIZE_MAX, VP8LF_GRID_TOO_LARGE, 99, 99);
+    final_rows(0, SIZE_MAX, SIZE_MAX, VP8LF_OK, 0, 0);
     if (failures > 0) {
         printf("header: %d of %d checks failed\n", failures, checks);
         return 1;

@@ -40,6 +40,11 @@ impl Display for Side {
     }
 }
 
+/// What can be lent: numbers whose bytes may be anything.
+pub trait Number: Copy {}
+impl Number for u8 {}
+impl Number for i16 {}
+
 /// Readable pages between two unreadable ones.
 pub struct Guarded {
     map: *mut u8,
@@ -48,7 +53,7 @@ pub struct Guarded {
 }
 
 impl Guarded {
-    /// Room for slices of up to `capacity` bytes.
+    /// Room for slices of `capacity` bytes. It grows for larger ones.
     pub fn new(capacity: usize) -> Guarded {
         // SAFETY: a fresh mapping, checked; its middle pages are made readable and writable, checked.
         unsafe {
@@ -63,16 +68,20 @@ impl Guarded {
         }
     }
 
-    /// A copy of `bytes` whose `side` touches an unreadable page.
-    pub fn lend(&mut self, side: Side, bytes: &[u8]) -> &mut [u8] {
-        assert!(bytes.len() <= self.readable);
+    /// A copy of `items` whose `side` touches an unreadable page.
+    pub fn lend<T: Number>(&mut self, side: Side, items: &[T]) -> &mut [T] {
+        let len = size_of_val(items);
+        if len > self.readable {
+            *self = Guarded::new(len);
+        }
         let offset = match side {
-            Side::End => self.page + self.readable - bytes.len(),
+            Side::End => self.page + self.readable - len,
             Side::Start => self.page,
         };
-        // SAFETY: the range lies within the readable pages, which this value owns.
-        let lent = unsafe { std::slice::from_raw_parts_mut(self.map.add(offset), bytes.len()) };
-        lent.copy_from_slice(bytes);
+        // SAFETY: the range lies within the readable pages, which this value owns; both of its ends are aligned, as
+        // those of the pages are.
+        let lent = unsafe { std::slice::from_raw_parts_mut(self.map.add(offset).cast(), items.len()) };
+        lent.copy_from_slice(items);
         lent
     }
 }

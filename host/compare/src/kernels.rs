@@ -2,7 +2,7 @@
 
 use crate::guard::{self, Guarded, SIDES, Side};
 use crate::random::Random;
-use crate::shrink::{shrink, smaller_bytes};
+use crate::shrink::{Cases, shrink, smaller_bytes};
 use crate::tally::{Kind, Tally};
 use crate::{Plan, ffi};
 use oracle::{loop_filter, opened};
@@ -360,7 +360,7 @@ impl Case {
     }
 
     /// Smaller slices, windows nearer to 0, and smaller limits.
-    fn simpler(&self) -> Vec<Case> {
+    fn simpler(&self) -> Cases<'_, Case> {
         let (bytes, width) = (self.seg.get(), self.kernel.width());
         let mut simpler = Vec::new();
         if self.fits() {
@@ -391,7 +391,7 @@ impl Case {
                 }
             }
         }
-        simpler
+        Box::new(simpler.into_iter())
     }
 
     fn classify(&self, kind: &mut Kind) {

@@ -3,28 +3,48 @@
 //! The modules in `MODULES` compare one layer each. They run their kinds of cases through [`Tally::run`], which counts
 //! them, prints what differs, and fails on a kind or a class that did not occur.
 
-mod ffi;
+mod call;
+mod coefficients;
+mod final_rows;
 mod guard;
+mod halting;
 mod kernels;
+mod levels;
 mod limits;
 mod numbers;
+mod passes;
+mod pictures;
 mod random;
+mod reach;
+mod recorded;
+mod refusals;
+mod settings;
 mod shrink;
+mod smaller_call;
 mod tally;
 mod windows;
 
+use entries as ffi;
+use std::path::PathBuf;
 use std::process::ExitCode;
 use tally::Tally;
 
-const USAGE: &str = "usage: compare [--long] [--seed NUMBER] [--only MODULE]";
+const USAGE: &str = "usage: compare [--long] [--seed NUMBER] [--only MODULE] [--film DIRECTORY]";
 
 type Comparison = fn(&Plan, &mut Tally);
 
-const MODULES: [(&str, Comparison); 4] = [
+const MODULES: &[(&str, Comparison)] = &[
     ("numbers", numbers::compare),
     ("limits", limits::compare),
     ("kernels", kernels::compare),
     ("windows", windows::compare),
+    ("levels", levels::compare),
+    ("coefficients", coefficients::compare),
+    ("passes", passes::compare),
+    ("refusals", refusals::compare),
+    ("halting", halting::compare),
+    ("final_rows", final_rows::compare),
+    ("film", recorded::compare),
 ];
 
 /// How much to compare.
@@ -33,16 +53,19 @@ pub struct Plan {
     pub long: bool,
     pub seed: u64,
     pub threads: usize,
+    /// A directory of `.vplf` files, compared besides the kept film.
+    pub film: Option<PathBuf>,
     only: Option<String>,
 }
 
 impl Plan {
     fn from_arguments(mut arguments: impl Iterator<Item = String>) -> Option<Plan> {
-        let mut plan = Plan { long: false, seed: 6386, threads: 1, only: None };
+        let mut plan = Plan { long: false, seed: 6386, threads: 1, film: None, only: None };
         while let Some(argument) = arguments.next() {
             match argument.as_str() {
                 "--long" => (plan.long, plan.threads) = (true, 2),
                 "--seed" => plan.seed = arguments.next()?.parse().ok()?,
+                "--film" => plan.film = Some(PathBuf::from(arguments.next()?)),
                 "--only" => {
                     let module = arguments.next()?;
                     MODULES.iter().find(|(name, _)| *name == module)?;
@@ -64,7 +87,7 @@ fn main() -> ExitCode {
     guard::report_faults();
     let mut tally = Tally::default();
     for (name, compare) in MODULES {
-        if plan.only.as_deref().is_none_or(|only| only == name) {
+        if plan.only.as_deref().is_none_or(|only| only == *name) {
             compare(&plan, &mut tally);
         }
     }

@@ -9,7 +9,7 @@ fn main() {
         Ok(dir) => PathBuf::from(dir),
         Err(_) => {
             let package = env::var("CARGO_MANIFEST_DIR").expect("cargo names CARGO_MANIFEST_DIR");
-            let repository = Path::new(&package).ancestors().nth(2).expect("host/compare");
+            let repository = Path::new(&package).ancestors().nth(2).expect("host/entries");
             repository.join("target/staticlib")
         }
     };

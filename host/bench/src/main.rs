@@ -1,0 +1,176 @@
+//! Times both passes of the library against the Rust's on the recorded frames for timing, in one run and in turn, and
+//! prints each smallest time of the library as a part of the Rust's smallest time.
+//!
+//! The level is forced: every macroblock has it, whatever its segment, reference and mode. "Rows" halts after each row
+//! of macroblocks.
+
+use entries::bytes::Records;
+use entries::{Layout, Lists};
+use film::Frame;
+use oracle::{FrameFilterConfig, KeyframePlanes};
+use std::fmt;
+use std::process::ExitCode;
+use std::time::{Duration, Instant};
+
+const LEVELS: [u8; 3] = [8, 24, 48];
+
+fn main() -> ExitCode {
+    let arguments: Vec<String> = std::env::args().skip(1).collect();
+    let repetitions = match &arguments[..] {
+        [] => Some(20),
+        [number] => number.parse().ok().filter(|number| *number > 0),
+        _ => None,
+    };
+    let Some(repetitions) = repetitions else {
+        eprintln!("usage: bench [REPETITIONS]");
+        return ExitCode::from(2);
+    };
+    let frames = film::bench();
+    let (columns, rows) = (frames[0].columns(), frames[0].rows());
+    println!("{} x {} samples, the least of {repetitions} repetitions", 16 * columns, 16 * rows);
+    println!("{:<34} {:>9} {:>8} {:>8}", "pass, filter, level, inner edges", "Rust", "library", "in rows");
+    let mut ratios = Vec::new();
+    for frame in &frames {
+        for simple in [false, true] {
+            for level in LEVELS {
+                for inner in [Inner::All, Inner::Coded, Inner::Few] {
+                    let case = Case::new(frame, simple, level, inner);
+                    let times = case.times(repetitions);
+                    let ratio = |variant: Variant| times[variant as usize].as_secs_f64() / times[0].as_secs_f64();
+                    let (whole, in_rows) = (ratio(Variant::Library), ratio(Variant::InRows));
+                    let rust = format!("{:.3} ms", times[0].as_secs_f64() * 1000.0);
+                    println!("{:<34} {rust:>9} {whole:>8.3} {in_rows:>8.3}", case.to_string());
+                    ratios.push((simple, [whole, in_rows]));
+                }
+            }
+        }
+    }
+    for (name, filters) in [("normal", &[false][..]), ("simple", &[true]), ("both", &[false, true])] {
+        let of = |variant: usize| {
+            let chosen = ratios.iter().filter(|(simple, _)| filters.contains(simple));
+            geometric_mean(chosen.map(|(_, ratios)| ratios[variant]))
+        };
+        println!("{:<34} {:>9} {:>8.3} {:>8.3}", format!("geometric mean, {name}"), "", of(0), of(1));
+    }
+    ExitCode::SUCCESS
+}
+
+fn geometric_mean(ratios: impl Iterator<Item = f64>) -> f64 {
+    let logarithms: Vec<f64> = ratios.map(f64::ln).collect();
+    (logarithms.iter().sum::<f64>() / logarithms.len() as f64).exp()
+}
+
+/// Which macroblocks have their inner edges filtered.
+#[derive(Clone, Copy)]
+enum Inner {
+    All,
+    Coded,
+    /// Every fiftieth.
+    Few,
+}
+
+#[derive(Clone, Copy)]
+enum Variant {
+    Rust,
+    Library,
+    InRows,
+}
+
+const VARIANTS: [Variant; 3] = [Variant::Rust, Variant::Library, Variant::InRows];
+
+struct Case<'a> {
+    frame: &'a Frame,
+    key: bool,
+    inner: Inner,
+    modes: Vec<u8>,
+    flags: Vec<u8>,
+    config: FrameFilterConfig,
+}
+
+impl Case<'_> {
+    fn new(frame: &Frame, simple: bool, level: u8, inner: Inner) -> Case<'_> {
+        let n = frame.modes.len();
+        let (modes, flags) = match inner {
+            Inner::All => (frame.modes.clone(), vec![1; n]),
+            Inner::Coded => (frame.modes.clone(), frame.flags.clone()),
+            Inner::Few => (vec![0; n], (0..n).map(|m| m.is_multiple_of(50) as u8).collect()),
+        };
+        let config = frame.config().with_simple(simple).with_loop_filter_level(level);
+        let config = config.with_segmentation_enabled(false).with_delta_enabled(false);
+        Case { frame, key: config.key_frame, inner, modes, flags, config }
+    }
+
+    /// The smallest time of each variant. They take turns, each with its own place in the order in each repetition.
+    fn times(&self, repetitions: usize) -> [Duration; 3] {
+        let (columns, rows) = (self.frame.columns(), self.frame.rows());
+        let [y, u, v] = self.frame.planes.clone();
+        let (y_stride, uv_stride) = (16 * columns, 8 * columns);
+        let mut planes = KeyframePlanes { y, u, v, y_stride, uv_stride, mb_cols: columns, mb_rows: rows };
+        let lists = Lists {
+            modes: &self.modes,
+            segments: &self.frame.segments,
+            flags: &self.flags,
+            references: &self.frame.references,
+            inter_modes: &self.frame.inter_modes,
+        };
+        let records = Records::of(&lists).expect("entries that stand for something");
+        let mut after = None;
+        let mut times = [Duration::MAX; 3];
+        for repetition in 0..repetitions {
+            for turn in 0..VARIANTS.len() {
+                let variant = VARIANTS[(turn + repetition) % VARIANTS.len()];
+                for (plane, first) in [&mut planes.y, &mut planes.u, &mut planes.v].into_iter().zip(&self.frame.planes)
+                {
+                    plane.copy_from_slice(first);
+                }
+                let start = Instant::now();
+                match variant {
+                    Variant::Rust => self.run_rust(&mut planes, &records),
+                    Variant::Library => self.run_library(&mut planes, &lists, columns * rows),
+                    Variant::InRows => self.run_library(&mut planes, &lists, columns),
+                }
+                let time = start.elapsed();
+                times[variant as usize] = times[variant as usize].min(time);
+                let after = after.get_or_insert_with(|| planes.clone());
+                assert!(*after == planes, "{self}: the library and the Rust leave the same planes");
+            }
+        }
+        times
+    }
+
+    fn run_rust(&self, planes: &mut KeyframePlanes, records: &Records) {
+        let Records { modes, has_coeffs, references, inter_modes } = records;
+        if self.key {
+            oracle::filter_frame_flags(planes, modes, has_coeffs, &self.config);
+        } else {
+            oracle::filter_inter_frame_flags(planes, modes, has_coeffs, references, inter_modes, &self.config);
+        }
+    }
+
+    /// Calls that each do `allowance` macroblocks, to the end of the picture.
+    fn run_library(&self, planes: &mut KeyframePlanes, lists: &Lists, allowance: usize) {
+        let KeyframePlanes { y, u, v, y_stride, uv_stride, mb_cols, mb_rows } = planes;
+        let layout = Layout { columns: *mb_cols, rows: *mb_rows, y_stride: *y_stride, uv_stride: *uv_stride };
+        let pass = if self.key { entries::filter_frame } else { entries::filter_inter_frame };
+        let (mut start, mut count) = (0, 0);
+        while start < lists.modes.len() {
+            let mut next = start;
+            let answer = pass([y, u, v], &layout, lists, &self.config, start, allowance, &mut count, &mut next);
+            assert!(answer == 0 && next > start, "{self}: the call is accepted and goes on");
+            start = next;
+        }
+    }
+}
+
+impl fmt::Display for Case<'_> {
+    fn fmt(&self, f: &mut fmt::Formatter<'_>) -> fmt::Result {
+        let pass = if self.key { "key" } else { "inter" };
+        let filter = if self.config.simple { "simple" } else { "normal" };
+        let inner = match self.inner {
+            Inner::All => "all",
+            Inner::Coded => "as coded",
+            Inner::Few => "2 %",
+        };
+        write!(f, "{pass}, {filter}, {}, {inner}", self.config.loop_filter_level)
+    }
+}

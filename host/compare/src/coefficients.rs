@@ -1,0 +1,98 @@
+//! `mb_has_coeffs` on lists of 0 to 800 numbers with one number set at each place, on lists with several set, and on
+//! the Rust's `MbCoeffs`, flattened in the order y2, y, u, v.
+
+use crate::guard::{self, Guarded, SIDES};
+use crate::random::Random;
+use crate::tally::{Kind, Tally};
+use crate::{Plan, ffi};
+use oracle::MbCoeffs;
+
+const LONGEST: usize = 800;
+/// Numbers that are not 0; those with a low or a high byte of 0 among them.
+const SET: [i16; 8] = [1, -1, 2, i16::MAX, i16::MIN, 256, -256, 255];
+
+pub fn compare(plan: &Plan, tally: &mut Tally) {
+    tally.run("mb_has_coeffs, lists of 0 to 800", &["no number set", "one number set", "several set"], |kind| {
+        let mut memory = Guarded::new((LONGEST + 2) * size_of::<i16>());
+        let mut random = Random::new(plan.seed);
+        (0..=LONGEST).try_for_each(|len| lists(len, &mut random, &mut memory, kind))
+    });
+    tally.run(
+        "mb_has_coeffs, flattened MbCoeffs",
+        &["no number set", "in y2", "in y", "in u", "in v", "in y2 and v"],
+        |kind| {
+            let mut memory = Guarded::new(400 * size_of::<i16>());
+            let mut random = Random::new(plan.seed);
+            let rounds = if plan.long { 1_000 } else { 20 };
+            (0..rounds).try_for_each(|_| records(&mut random, &mut memory, kind))
+        },
+    );
+}
+
+/// All 0, then one set at each place, then several; and all 0 with other numbers right before and after the list.
+fn lists(len: usize, random: &mut Random, memory: &mut Guarded, kind: &mut Kind) -> Result<(), String> {
+    for side in SIDES {
+        let beside = memory.lend(side, &[vec![1], vec![0; len], vec![1]].concat());
+        same(kind, "no number set", &beside[1..=len], false)?;
+        let list = memory.lend(side, &vec![0; len]);
+        same(kind, "no number set", list, false)?;
+        for place in 0..len {
+            list[place] = random.one_of(&SET);
+            same(kind, "one number set", list, true)?;
+            list[place] = 0;
+        }
+        for _ in 0..if len > 1 { 4 } else { 0 } {
+            let first = random.below(len - 1);
+            list[first] = random.one_of(&SET);
+            list[first + 1 + random.below(len - 1 - first)] = random.one_of(&SET);
+            same(kind, "several set", list, true)?;
+            list.fill(0);
+        }
+    }
+    Ok(())
+}
+
+/// The Rust's record with nothing set, with one number set at each place, and with two set.
+fn records(random: &mut Random, memory: &mut Guarded, kind: &mut Kind) -> Result<(), String> {
+    let mut compare = |class: &str, coeffs: &MbCoeffs| {
+        let flat = flatten(coeffs);
+        SIDES
+            .into_iter()
+            .try_for_each(|side| same(kind, class, memory.lend(side, &flat), oracle::mb_has_coeffs(coeffs)))
+    };
+    compare("no number set", &MbCoeffs::default())?;
+    for index in 0..400 {
+        let mut one = MbCoeffs::default();
+        let (class, place) = match index {
+            0..16 => ("in y2", &mut one.y2[index]),
+            16..272 => ("in y", &mut one.y[(index - 16) / 16][index % 16]),
+            272..336 => ("in u", &mut one.u[(index - 272) / 16][index % 16]),
+            _ => ("in v", &mut one.v[(index - 336) / 16][index % 16]),
+        };
+        *place = random.one_of(&SET);
+        if flatten(&one)[index] == 0 {
+            return Err(format!("number {index} of the record must be number {index} of the list"));
+        }
+        compare(class, &one)?;
+    }
+    let mut two = MbCoeffs::default();
+    two.y2[random.below(16)] = random.one_of(&SET);
+    two.v[random.below(4)][random.below(16)] = random.one_of(&SET);
+    compare("in y2 and v", &two)
+}
+
+fn flatten(coeffs: &MbCoeffs) -> Vec<i16> {
+    [&coeffs.y2[..], coeffs.y.as_flattened(), coeffs.u.as_flattened(), coeffs.v.as_flattened()].concat()
+}
+
+fn same(kind: &mut Kind, class: &str, list: &[i16], expected: bool) -> Result<(), String> {
+    kind.add_cases(1);
+    kind.add_class(class, 1);
+    let what = format_args!("  mb_has_coeffs on a list of {} numbers", list.len());
+    let answer = guard::calling(&what, || ffi::mb_has_coeffs(list));
+    if answer == expected {
+        return Ok(());
+    }
+    let set: Vec<(usize, i16)> = list.iter().copied().enumerate().filter(|(_, number)| *number != 0).collect();
+    Err(format!("a list of {} numbers, all 0 but {set:?} (place, number): the library answers {answer}", list.len()))
+}

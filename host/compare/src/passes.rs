@@ -1,0 +1,273 @@
+//! Both passes on random pictures: every halting pattern of small grids, random halts of larger ones, any start, the
+//! largest grids and strides.
+
+use crate::Plan;
+use crate::call::{Call, Done, FLAGS, MODES, Memory, Outcome, PASSES, Pass, Planes, RustSteps, SEGMENTS};
+use crate::pictures::{on_layout, picture};
+use crate::random::Random;
+use crate::smaller_call::difference;
+use crate::tally::{Kind, Tally};
+use entries::Layout;
+use oracle::{LoopFilterParams, opened};
+
+const CLASSES: [&str; 19] = [
+    "filtered",
+    "not filtered",
+    "halted",
+    "to the end",
+    "nothing left",
+    "allowance 0",
+    "normal filter",
+    "simple filter",
+    "level 0",
+    "inner edges",
+    "no inner edges",
+    "high variance",
+    "low variance",
+    "edge left alone",
+    "samples outside the grid",
+    "header level above 63",
+    "sharpness above 7",
+    "segment above 3",
+    "flag above 1",
+];
+
+pub fn compare(plan: &Plan, tally: &mut Tally) {
+    for pass in PASSES {
+        let name = pass.entry();
+        tally.run(&format!("{name}, every halting pattern"), &CLASSES, |kind| patterns(plan, pass, kind));
+        tally.run(&format!("{name}, random halts"), &CLASSES, |kind| random_halts(plan, pass, kind));
+        tally.run(&format!("{name}, any start"), &CLASSES, |kind| any_start(plan, pass, kind));
+        tally.run(&format!("{name}, largest grids and strides"), &["filtered", "halted"], |kind| {
+            largest(plan, pass, kind)
+        });
+    }
+}
+
+/// Runs `compare` `rounds` times, in threads, each with numbers and memory of its own.
+pub fn rounds<F>(plan: &Plan, rounds: usize, kind: &mut Kind, compare: F) -> Result<(), String>
+where
+    F: Fn(&mut Random, &mut Memory, &mut Kind) -> Result<(), String> + Sync,
+{
+    kind.in_threads(plan.threads, |thread, kind| {
+        let (mut random, mut memory) = (Random::new(plan.seed ^ (thread as u64 + 1) << 32), Memory::new());
+        (0..rounds.div_ceil(plan.threads)).try_for_each(|_| compare(&mut random, &mut memory, kind))
+    })
+}
+
+/// Compares one call with what is expected of it, and answers the planes that it left.
+pub fn same(call: &Call, expected: Outcome, memory: &mut Memory) -> Result<Planes, String> {
+    let library = call.library(memory);
+    if library == expected {
+        return Ok(library.planes);
+    }
+    Err(difference(call, &expected, &library, memory))
+}
+
+/// Every way to cut the macroblocks of a small grid into calls.
+fn patterns(plan: &Plan, pass: Pass, kind: &mut Kind) -> Result<(), String> {
+    let times = if plan.long { 1_000 } else { 25 };
+    let sizes = (1..=6).flat_map(|columns| (1..=6).map(move |rows| (columns, rows)));
+    let sizes: Vec<(usize, usize)> = sizes.filter(|(columns, rows)| columns * rows <= 9).collect();
+    rounds(plan, times, kind, |random, memory, kind| {
+        for &(columns, rows) in &sizes {
+            let picture = picture(pass, columns, rows, random);
+            let after = each_step(&picture);
+            let n = columns * rows;
+            for pattern in 0..1u32 << (n - 1) {
+                // A set bit halts after its macroblock.
+                let halts = (1..n).filter(|m| pattern >> (m - 1) & 1 == 1).chain([n]);
+                in_calls(&picture, &after, halts, random, memory, kind)?;
+            }
+        }
+        Ok(())
+    })
+}
+
+fn random_halts(plan: &Plan, pass: Pass, kind: &mut Kind) -> Result<(), String> {
+    let times = if plan.long { 100_000 } else { 4_000 };
+    rounds(plan, times, kind, |random, memory, kind| {
+        let most = random.one_of(&[3, 5, 8, 12]);
+        let picture = picture(pass, 1 + random.below(most), 1 + random.below(most), random);
+        let after = each_step(&picture);
+        let n = picture.macroblocks();
+        let often = random.one_of(&[1, 2, 4, n]);
+        let halts: Vec<usize> = (1..n).filter(|_| random.below(often) == 0).chain([n]).collect();
+        in_calls(&picture, &after, halts.into_iter(), random, memory, kind)
+    })
+}
+
+/// The planes lent, and those that each step of the Rust leaves.
+pub fn each_step(picture: &Call) -> Vec<Planes> {
+    let mut steps = RustSteps::new(picture);
+    let mut after = vec![picture.planes.clone()];
+    for m in 0..picture.macroblocks() {
+        steps.step(m);
+        after.push(steps.planes());
+    }
+    after
+}
+
+/// The whole picture in calls that end at `halts`, the last of which is the end, with calls of allowance 0 between
+/// them. `after` is what [`each_step`] answers. The last call leaves what the Rust's unbroken pass leaves.
+fn in_calls(
+    picture: &Call,
+    after: &[Planes],
+    halts: impl Iterator<Item = usize>,
+    random: &mut Random,
+    memory: &mut Memory,
+    kind: &mut Kind,
+) -> Result<(), String> {
+    let n = picture.macroblocks();
+    let mut call = picture.clone();
+    let mut compare = |call: &Call, next: usize| {
+        let done = Done { count: next - call.start, next };
+        classify(call, done, &after[next], kind);
+        same(call, Outcome::new(Ok(done), after[next].clone()), memory)
+    };
+    for next in halts {
+        if random.below(8) == 0 {
+            call.allowance = 0;
+            call.planes = compare(&call, call.start)?;
+        }
+        call.allowance = next - call.start;
+        if next == n {
+            let more = random.one_of(&[0, 0, 1, usize::MAX - call.allowance]);
+            call.allowance += more;
+        }
+        call.planes = compare(&call, next)?;
+        call.start = next;
+    }
+    if call.planes != picture.unbroken() {
+        return Err(format!("the Rust's steps one by one must leave what its pass leaves\n{picture}"));
+    }
+    call.allowance = random.one_of(&[0, 1, usize::MAX]);
+    compare(&call, n).map(|_| ())
+}
+
+/// One call from any start with any allowance, on planes that no step before it touched.
+fn any_start(plan: &Plan, pass: Pass, kind: &mut Kind) -> Result<(), String> {
+    let times = if plan.long { 500_000 } else { 15_000 };
+    rounds(plan, times, kind, |random, memory, kind| {
+        let most = random.one_of(&[2, 4, 9]);
+        let mut call = picture(pass, 1 + random.below(most), 1 + random.below(most), random);
+        let n = call.macroblocks();
+        let any = random.below(n);
+        call.start = random.one_of(&[0, 1, n - 1, n, any, any]);
+        let (rest, any) = (n - call.start, random.below(n + 1));
+        let allowances = [0, 1, rest, rest + 1, rest.saturating_sub(1), any, 1 << 32, usize::MAX];
+        call.allowance = random.one_of(&allowances);
+        let expected = call.expected();
+        classify(&call, expected.done(), &expected.planes, kind);
+        same(&call, expected, memory).map(|_| ())
+    })
+}
+
+/// The largest grids that 1 accepts and the largest strides that 2 accepts, halted at random and whole.
+fn largest(plan: &Plan, pass: Pass, kind: &mut Kind) -> Result<(), String> {
+    let tight = |columns, rows| Layout { columns, rows, y_stride: 16 * columns, uv_stride: 8 * columns };
+    let wide = |columns, rows| Layout { columns, rows, y_stride: 65_536, uv_stride: 65_536 };
+    let mut layouts = vec![
+        tight(1024, 1),
+        tight(1, 1024),
+        tight(1024, 2),
+        wide(1, 1),
+        wide(2, 2),
+        wide(1024, 1),
+        Layout { y_stride: 65_536, ..tight(3, 1) },
+        Layout { uv_stride: 65_536, ..tight(1, 3) },
+    ];
+    if plan.long {
+        layouts.extend([tight(1024, 1024), wide(1, 128)]);
+    }
+    let mut random = Random::new(plan.seed);
+    let mut memory = Memory::new();
+    for layout in layouts {
+        let mut whole = on_layout(pass, layout, &mut random);
+        whole.config.loop_filter_level |= 16;
+        whole.config.segmentation_enabled = false;
+        let n = whole.macroblocks();
+        let unbroken = whole.unbroken();
+        let mut halted = whole.clone();
+        for next in [random.below(n + 1), n] {
+            halted.allowance = next - halted.start;
+            let done = Done { count: halted.allowance, next };
+            kind.add_cases(1);
+            kind.add_class("halted", (next < n) as u64);
+            let planes = stepped_to(&whole, next);
+            halted.planes = same(&halted, Outcome::new(Ok(done), planes), &mut memory)?;
+            halted.start = next;
+        }
+        kind.add_cases(1);
+        kind.add_class("filtered", (unbroken != whole.planes) as u64);
+        same(&whole, Outcome::new(Ok(Done { count: n, next: n }), unbroken), &mut memory)?;
+    }
+    Ok(())
+}
+
+/// What the steps before `next` leave of a picture: the Rust's pass over the rows that they fill, then its steps in
+/// the row below.
+pub fn stepped_to(picture: &Call, next: usize) -> Planes {
+    let columns = picture.layout.columns;
+    let upper = |rows: usize, planes: Planes| {
+        let mut upper = Call { planes, ..picture.clone() };
+        upper.layout.rows = rows;
+        upper.lists.iter_mut().for_each(|list| list.truncate(columns * rows));
+        upper
+    };
+    let (rows, more) = (next / columns, next % columns);
+    let filled = if rows > 0 { upper(rows, picture.planes.clone()).unbroken() } else { picture.planes.clone() };
+    if more == 0 {
+        return filled;
+    }
+    let halted = upper(rows + 1, filled);
+    let mut steps = RustSteps::new(&halted);
+    (next - more..next).for_each(|m| steps.step(m));
+    steps.planes()
+}
+
+/// Counts what an accepted call on a grid with macroblocks shows.
+fn classify(call: &Call, done: Done, after: &Planes, kind: &mut Kind) {
+    kind.add_cases(1);
+    let mut class = |name: &str, occurs: bool| kind.add_class(name, occurs as u64);
+    let n = call.macroblocks();
+    class("halted", done.next < n);
+    class("to the end", done.next == n && done.count > 0);
+    class("nothing left", call.start == n);
+    class("allowance 0", call.allowance == 0);
+    class("normal filter", !call.config.simple);
+    class("simple filter", call.config.simple);
+    class("samples outside the grid", call.planes.iter().map(Vec::len).sum::<usize>() > 384 * n);
+    if done.count == 0 {
+        return;
+    }
+    class("filtered", *after != call.planes);
+    class("not filtered", *after == call.planes);
+    let first = call.start;
+    let level = call.level(first);
+    let inner = call.lists[MODES][first] == 4 || call.lists[FLAGS][first] != 0;
+    class("level 0", level == 0);
+    class("inner edges", level > 0 && inner);
+    class("no inner edges", level > 0 && !inner);
+    class("header level above 63", level > 0 && call.config.loop_filter_level > 63);
+    class("sharpness above 7", level > 0 && call.config.sharpness_level > 7);
+    class("segment above 3", call.config.segmentation_enabled && call.lists[SEGMENTS][first] > 3);
+    class("flag above 1", level > 0 && call.lists[MODES][first] < 4 && call.lists[FLAGS][first] > 1);
+    let (row, column) = (first / call.layout.columns, first % call.layout.columns);
+    if level == 0 || column == 0 || call.config.simple {
+        return;
+    }
+    // The left luma edge of the first macroblock comes before all others, so its samples are those lent.
+    let limits = LoopFilterParams::derive(level, call.config.sharpness_level, call.config.key_frame);
+    for position in 0..16 {
+        let base = (16 * row + position) * call.layout.y_stride + 16 * column - 4;
+        let taps: [u8; 8] = std::array::from_fn(|tap| call.planes[0][base + tap]);
+        if opened::filter_yes(limits.interior_limit, limits.mbedge_limit, taps) {
+            let high = opened::hev(limits.hev_threshold, taps);
+            class("high variance", high);
+            class("low variance", !high);
+        } else {
+            class("edge left alone", true);
+        }
+    }
+}

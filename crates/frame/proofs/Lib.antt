@@ -32,3 +32,10 @@ pub mod Squares
 pub mod EntryLaws
 pub mod Plans
 pub mod Passes
+-- The entries over lent lists of records, which are walked.
+pub mod RecordLaws
+pub mod RecordBytes
+pub mod RecordPasses
+pub mod Again
+pub mod Enter26
+pub mod RecordWalk

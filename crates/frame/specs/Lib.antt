@@ -14,6 +14,7 @@ pub mod FinalRows
 pub mod Layout
 pub mod PassCalls
 pub mod Answers
+pub mod RecordBytes
 -- lists of calls, computed
 pub mod ExampleCalls
 pub mod CallExamples

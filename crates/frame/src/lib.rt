@@ -7,6 +7,8 @@ pub mod layout;
 mod normal;
 pub mod pass;
 mod plan;
+pub mod record_pass;
+mod record_step;
 pub mod records;
 mod run;
 mod simple;

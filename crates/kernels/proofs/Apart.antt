@@ -1,13 +1,15 @@
 -- Distances of samples: on the samples as stored they are those of the signed samples.
 -- Assumes nothing.
 use mathlib.Core.Path.{_≡_, refl, sym, ap, _∙_}
-use mathlib.Core.Bool.{Bool, cond}
-use Prim.Native.Nat.{ℕ, zero, suc, _-_, _≤_, _<_}
+use mathlib.Core.Bool.{Bool, true, false, cond, not, _&&_, _||_}
+use Prim.Native.Nat.{ℕ, zero, suc, _+_, _-_, _*_, _/_, _%_, _^_, _≤_, _<_}
 use native.Mathlib.Omega.{arith}
 use lib.IntN.{ℤ, pos, negsuc, negℤ, subℕ, _+ℤ_, _-ℤ_, natAbs, negℤ-+ℤ, negℤ-negℤ, +ℤ-assoc, +ℤ-comm, +ℤ-negℤ-cancel}
-use borrow.Author.Tests.{le-ltb, lt-ltb}
+use lib.Dec.{leb, ltb}
+use borrow.Author.Tests.{le-ltb, lt-ltb, le-leb, lt-leb, leb-true, leb-false, ltb-true, ltb-false}
 use Rattle.kernels.specs.Numbers.{u2s}
-use Rattle.kernels.specs.Kernels.{apart, edgeValue}
+use Rattle.kernels.specs.Kernels.{apart, edgeValue, simpleYes, filterYes, hev, segmentYes, segmentHev}
+use Rattle.kernels.specs.Windows.{neighboursNear, lowVariance}
 
 pos-sub : (a b : ℕ) → pos a -ℤ pos b ≡ subℕ a b
 pos-sub a zero = ap pos (omega arith) ∙ sym (ap (λ (t : Bool). cond t (negsuc (0 - suc a)) (pos (a - 0))) (le-ltb a 0 (omega arith)))
@@ -28,10 +30,74 @@ sub-both a b k =
     ∙ +ℤ-assoc a (negℤ k) (negℤ b +ℤ k)
     ∙ ap (λ (z : ℤ). a +ℤ z) (+ℤ-comm (negℤ k) (negℤ b +ℤ k) ∙ +ℤ-negℤ-cancel (negℤ b) k)
 
+pub difference-signed : (a b : ℕ) → u2s a -ℤ u2s b ≡ pos a -ℤ pos b
+unfolding u2s
+difference-signed a b = sub-both (pos a) (pos b) (pos 128)
+
 pub apart-signed : (a b : ℕ) → apart (u2s a) (u2s b) ≡ apart (pos a) (pos b)
-unfolding apart u2s
-apart-signed a b = ap natAbs (sub-both (pos a) (pos b) (pos 128))
+unfolding apart
+apart-signed a b = ap natAbs (difference-signed a b)
 
 pub edge-signed : (a b c d : ℕ) → edgeValue (u2s a) (u2s b) (u2s c) (u2s d) ≡ edgeValue (pos a) (pos b) (pos c) (pos d)
 unfolding edgeValue
 edge-signed a b c d = rw (apart-signed b c, apart-signed a d)
+
+-- ---- the tests of the samples as stored
+
+cond-same : {X : Type 0} (x : X) (t : Bool) → x ≡ cond t x x
+cond-same x true = refl
+cond-same x false = refl
+
+first-last : {X : Type 0} (x y : X) (e a b c d f g : Bool) → cond (e && a && b && c && d && f && g) x y ≡ cond (a && b && c && d && f && g) (cond e x y) y
+first-last x y true a b c d f g = refl
+first-last x y false a b c d f g = cond-same y (a && b && c && d && f && g)
+
+-- filter_yes tests the neighbours, then the edge
+pub yes-in-turn : (i e P3 P2 P1 P0 Q0 Q1 Q2 Q3 : ℕ) {X : Type 0} (x y : X)
+    → cond (segmentYes i e P3 P2 P1 P0 Q0 Q1 Q2 Q3) x y ≡ cond (neighboursNear i P3 P2 P1 P0 Q0 Q1 Q2 Q3) (cond (simpleYes e P1 P0 Q0 Q1) x y) y
+unfolding segmentYes filterYes simpleYes neighboursNear
+yes-in-turn i e P3 P2 P1 P0 Q0 Q1 Q2 Q3 x y =
+    (λ j. cond (leb (edge-signed P1 P0 Q0 Q1 j) e
+    && leb (apart-signed P3 P2 j) i && leb (apart-signed P2 P1 j) i && leb (apart-signed P1 P0 j) i
+    && leb (apart-signed Q3 Q2 j) i && leb (apart-signed Q2 Q1 j) i && leb (apart-signed Q1 Q0 j) i) x y)
+    ∙ first-last x y (leb (edgeValue (pos P1) (pos P0) (pos Q0) (pos Q1)) e)
+    (leb (apart (pos P3) (pos P2)) i) (leb (apart (pos P2) (pos P1)) i) (leb (apart (pos P1) (pos P0)) i)
+    (leb (apart (pos Q3) (pos Q2)) i) (leb (apart (pos Q2) (pos Q1)) i) (leb (apart (pos Q1) (pos Q0)) i)
+
+above : (t d : ℕ) → ltb t d ≡ not (leb d t)
+above t d = pick (leb d t) refl
+  where
+    pick : (b : Bool) → leb d t ≡ b → ltb t d ≡ not (leb d t)
+    pick true e = le-ltb t d (leb-true d t e) ∙ sym (ap not e)
+    pick false e = lt-ltb t d (leb-false d t e) ∙ sym (ap not e)
+
+either : {X : Type 0} (x y : X) (a b : Bool) → cond (not a || not b) x y ≡ cond (a && b) y x
+either x y true true = refl
+either x y true false = refl
+either x y false b = refl
+
+-- hev leads where low variance does not
+pub hev-low : (t P1 P0 Q0 Q1 : ℕ) {X : Type 0} (x y : X) → cond (segmentHev t P1 P0 Q0 Q1) x y ≡ cond (lowVariance t P1 P0 Q0 Q1) y x
+unfolding segmentHev hev lowVariance
+hev-low t P1 P0 Q0 Q1 x y =
+    (λ j. cond (ltb t (apart-signed P1 P0 j) || ltb t (apart-signed Q1 Q0 j)) x y)
+    ∙ (λ j. cond (above t (apart (pos P1) (pos P0)) j || above t (apart (pos Q1) (pos Q0)) j) x y)
+    ∙ either x y (leb (apart (pos P1) (pos P0)) t) (leb (apart (pos Q1) (pos Q0)) t)
+
+-- |a - b| <= i, by the difference that wraps
+pub near-is : (a b i r : ℕ) → a < 256 → b < 256 → i < 256 → r < 2 ^ 64 → (r + b) % 2 ^ 64 ≡ a + i → leb r (2 * i) ≡ leb (apart (pos a) (pos b)) i
+near-is a b i r ha hb hi hr e = pick (leb r (2 * i)) refl (ltb a b) refl
+  where
+    pick : (t : Bool) → leb r (2 * i) ≡ t → (s : Bool) → ltb a b ≡ s → leb r (2 * i) ≡ leb (apart (pos a) (pos b)) i
+    pick true p true q = p ∙ sym (le-leb (apart (pos a) (pos b)) i (omega (arith, leb-true r (2 * i) p, apart-below a b (ltb-true a b q))))
+    pick true p false q = p ∙ sym (le-leb (apart (pos a) (pos b)) i (omega (arith, leb-true r (2 * i) p, apart-above a b (ltb-false a b q))))
+    pick false p true q = p ∙ sym (lt-leb (apart (pos a) (pos b)) i (omega (arith, leb-false r (2 * i) p, apart-below a b (ltb-true a b q), ltb-true a b q)))
+    pick false p false q = p ∙ sym (lt-leb (apart (pos a) (pos b)) i (omega (arith, leb-false r (2 * i) p, apart-above a b (ltb-false a b q), ltb-false a b q)))
+
+-- the test of the edge, doubled
+pub twice : (x y e : ℕ) → leb (x * 4 + y) (2 * e + 1) ≡ leb (x * 2 + y / 2) e
+twice x y e = pick (leb (x * 4 + y) (2 * e + 1)) refl
+  where
+    pick : (t : Bool) → leb (x * 4 + y) (2 * e + 1) ≡ t → leb (x * 4 + y) (2 * e + 1) ≡ leb (x * 2 + y / 2) e
+    pick true p = p ∙ sym (le-leb (x * 2 + y / 2) e (omega (arith, leb-true (x * 4 + y) (2 * e + 1) p)))
+    pick false p = p ∙ sym (lt-leb (x * 2 + y / 2) e (omega (arith, leb-false (x * 4 + y) (2 * e + 1) p)))

@@ -1,7 +1,7 @@
 -- What several proofs share.
 pub mod Ranges
-pub mod Rules
 pub mod Apart
+pub mod Cuts
 pub mod Windows
 pub mod KernelLaws
 pub mod SegmentLaws

@@ -3,22 +3,22 @@
 -- Assumes nothing.
 use mathlib.Core.Path.{_≡_, refl, sym, ap, subst, _∙_}
 use mathlib.Core.Bool.{Bool, true, false, cond}
-use Prim.Native.Nat.{ℕ, zero, suc, _+_, _-_, _*_, _/_, _^_, _≤_, _<_}
+use Prim.Native.Nat.{ℕ, zero, suc, _+_, _-_, _*_, _^_, _≤_, _<_}
 use native.Mathlib.Nat.{lt-of-lt-of-le, lt-of-le-of-lt, mul-le-mul-left, mul-le-mul-right, mul-suc, suc-mul, le-refl, le-trans, le-of-lt, div-lt-iff-lt-mul}
 use native.Mathlib.Omega.{arith}
 use lib.Dec.{T, leb, ltb, leb→le, ltb→lt, lit<}
 use lib.IntN.{ℤ, pos, negsuc, negℤ, subℕ, _+ℤ_, _-ℤ_, _*ℤ_, natAbs}
-use lib.Signed.{mag, ltZ, leZ, nonNeg, shrZ, mag-shr}
-use borrow.Author.Tests.{ltb-true, ltb-false, le-ltb, lt-ltb}
-use mir.Syntax.{Width, w8, w16, w32}
+use lib.Signed.{mag, ltZ, nonNeg, shrZ, mag-shr}
+use borrow.Author.Tests.{ltb-true, ltb-false, le-ltb}
+use mir.Syntax.{Width, w8, w32, w64}
 use mir.Val.{bits, hbits, Fits, SFits, toZ, ofZ}
 use mir.Facts.{toZ-ofZ, toZ-pos}
 use Rattle.kernels.specs.Numbers.{clamp, u2s}
 use Rattle.kernels.specs.Numbers as numbers
-use Rattle.kernels.specs.Kernels.{lossOf, adjustment}
+use Rattle.kernels.specs.Kernels.{filterValue, lossOf, adjustment}
 
 -- ---- magnitudes
-sub-by : (b : Bool) (x y : ℤ) (N : ℕ) → (b ≡ true → mag x < N) → (b ≡ false → mag y < N) → mag (cond b x y) < N
+pub sub-by : (b : Bool) (x y : ℤ) (N : ℕ) → (b ≡ true → mag x < N) → (b ≡ false → mag y < N) → mag (cond b x y) < N
 sub-by true x y N f g = f refl
 sub-by false x y N f g = g refl
 
@@ -115,6 +115,9 @@ module _ {w w′ : Width} {n : ℕ} {x : ℤ} {A : ℕ} (p : Is w n x A) (r : Ro
 pub ofU : (w : Width) {n A : ℕ} → Room w A → n < A → Is w n (pos n) A
 ofU w {n} {A} r h = record { val = toZ-pos w (lt-of-lt-of-le h (leb→le A (2 ^ hbits w) r)); inr = h }
 
+pub sample : {n : ℕ} → n < 256 → Is w64 n (pos n) 256
+sample h = ofU w64 tt h
+
 -- a literal: `lit 128 tt`, and of a negative one `litNeg`
 pub lit : (w : Width) (n : ℕ) → Room w (suc n) → Is w n (pos n) (suc n)
 lit w n r = ofU w r (le-refl (suc n))
@@ -152,6 +155,9 @@ pub u2s-in : (n : ℕ) → n < 256 → mag (u2s n) < 128
 unfolding u2s
 u2s-in n h = mag-sub n 128 128 (λ p. omega arith) (λ p. omega arith)
 
+pub difference-in : (a b : ℕ) → a < 256 → b < 256 → mag (u2s a -ℤ u2s b) < 256
+difference-in a b h k = in-sub (u2s a) (u2s b) (u2s-in a h) (u2s-in b k)
+
 pub up-nonNeg : (z : ℤ) → mag z < 128 → T (nonNeg (z +ℤ pos 128))
 up-nonNeg (pos n) h = tt
 up-nonNeg (negsuc n) h = subst (λ (b : Bool). T (nonNeg (cond b (negsuc (suc n - suc 128)) (pos (128 - suc n))))) (sym (le-ltb 128 (suc n) h)) tt
@@ -169,17 +175,11 @@ castU? w′ p t h = (subst (λ (v : ℤ). T (nonNeg v)) (sym (p .val)) t, subst 
 pub clamped : {n : ℕ} {x : ℤ} {A : ℕ} → Is w32 n x A → {r : ℤ} → mag r < 2 ^ 7 → r ≡ clamp (toZ w32 n) → Is w8 (ofZ w8 r) (clamp x) 128
 clamped p h e = gave h (e ∙ ap clamp (p .val))
 
--- an `i8` as an `i32`: a parameter, and its bits
-abbrev pub at32 : ℤ → ℕ
-at32 z = ofZ w32 (toZ w8 (ofZ w8 z))
+-- a call's result whose number has a range of its own
+pub got : {w : Width} {r z : ℤ} {A : ℕ} → mag r < 2 ^ hbits w → r ≡ z → mag z < A → Is w (ofZ w r) z A
+got h e i = tighten (gave h e) i
 
-pub wide : {z : ℤ} → SFits w8 z → Is w32 (at32 z) z 128
-wide f = cast (held f) tt
-
-pub wide? : {z : ℤ} → SFits w8 z → SFits w32 (toZ w8 (ofZ w8 z))
-wide? f = cast? (held f) tt
-
--- ---- a product with an unsigned factor, and a shift that narrows the range
+-- a product with an unsigned factor
 pub in-mulU : (k : ℕ) (x : ℤ) {K A : ℕ} → k < K → mag x < A → mag (pos k *ℤ x) < K * A
 in-mulU k (pos a) {K} {A} h g = omega (arith, mul-le-mul-right a h, mul-le-mul-left K g, mul-suc K a, suc-mul k a, mul-suc-pos K A h g)
   where
@@ -195,6 +195,7 @@ module _ {w : Width} {m n k : ℕ} {x : ℤ} {K A : ℕ} (p : Is w m (pos k) K) 
   pub mulU? : SFits w (toZ w m *ℤ toZ w n)
   mulU? = asks r (λ i. p .val i *ℤ q .val i) (in-mulU k x (p .inr) (q .inr))
 
+-- a shift that narrows the range
 pub in-shr-by : (m A : ℕ) (x : ℤ) → 0 < m → mag x < A * m → mag (shrZ x m) < A
 in-shr-by m A (pos n) k h = div-lt-iff-lt-mul k .1 h
 in-shr-by m A (negsuc n) k h = div-lt-iff-lt-mul k .1 h
@@ -203,7 +204,11 @@ in-shr-by m A (negsuc n) k h = div-lt-iff-lt-mul k .1 h
 pub moves : {w : Width} {m n : ℕ} {y z : ℤ} {A : ℕ} → Is w n z A → m ≡ n → z ≡ y → Is w m y A
 moves {w} {m} {n} {y} {z} {A} p e f = subst (λ (k : ℕ). Is w k y A) (sym e) (subst (λ (v : ℤ). Is w n v A) f p)
 
--- the adjustment is a signed byte
+-- the filter value and the adjustment are signed bytes
+pub filter-in : (o : Bool) (p1 p0 q0 q1 : ℤ) → mag (filterValue o p1 p0 q0 q1) < 128
+unfolding filterValue
+filter-in o p1 p0 q0 q1 = clamp-in _
+
 pub adjustment-in : (o : Bool) (a b c d : ℕ) → mag (adjustment o a b c d) < 128
 unfolding adjustment lossOf numbers.shr
 adjustment-in o a b c d = in-shr 8 (clamp _) (clamp-in _)

@@ -4,30 +4,22 @@ use mathlib.Core.Path.{_≡_, refl, sym, ap, _∙_}
 use mathlib.Core.Logic.{_≢_}
 use mathlib.Core.Bool.{Bool, true, false, cond}
 use mathlib.Core.List.{List}
-use Prim.Native.Nat.{ℕ, _+_, _≤_, _<_}
+use Prim.Native.Nat.{ℕ, _+_}
 use native.Mathlib.Nat.{add-zero}
 use native.Mathlib.Omega.{arith}
-use lib.Dec.{leb}
-use lib.ListN.{length, getD, set, take, drop}
+use lib.ListN.{getD, set, take, drop}
 use lib.Seq.{set-getD, getD-set-other}
-use borrow.Author.Tests.{le-leb, lt-leb}
 use lib.IntN.{_+ℤ_, _-ℤ_}
 use Rattle.kernels.specs.Numbers.{u2s, s2u}
 use Rattle.kernels.specs.Kernels as K
 use Rattle.kernels.specs.Kernels.{segmentYes, segmentHev, adjustedP0, adjustedQ0, simpleYes, outerStep, part, wideValue}
-use Rattle.kernels.specs.Segment.{Kernel, commonAdjust, simpleSegment, subblockFilter, mbFilter, half, taps, smooth, gather, scatter, segment, fitsAt, windowed}
-use Rattle.kernels.specs.Windows.{tap, yesAt, adjustedIn, softened, widenedBy}
+use Rattle.kernels.specs.Segment.{commonAdjust, simpleSegment, subblockFilter, mbFilter, half, taps, smooth, gather, scatter, segment}
+use Rattle.kernels.specs.Windows.{neighboursNear, adjustedAt, softenedFour, softened, widenedSix, widened}
+use Rattle.kernels.proofs.Apart.{yes-in-turn, hev-low}
 
--- ---- a window that fits or does not
-
-module _ (k : Kernel) (l : List ℕ) (b : ℕ) {X : Type 0} (x y : X) where
-  pub fits : b + taps k ≤ length l → cond (fitsAt k l b) x y ≡ x
-  unfolding fitsAt
-  fits h = ap (λ (t : Bool). cond t x y) (le-leb (b + taps k) (length l) h)
-
-  pub short : length l < b + taps k → cond (fitsAt k l b) x y ≡ y
-  unfolding fitsAt
-  short h = ap (λ (t : Bool). cond t x y) (lt-leb (b + taps k) (length l) h)
+-- the sample k places after base
+abbrev tap : List ℕ → ℕ → ℕ → ℕ
+tap l base k = getD l (base + k) 0
 
 -- a test that a function answered, and where it led
 pub taken : {X : Type 0} (x y : X) {a f : Bool} → f ≡ a → f ≡ true → cond a x y ≡ x
@@ -64,18 +56,18 @@ module _ (l : List ℕ) (b : ℕ) where
 
   -- the two samples at the edge, stored
   pub common-window : (o : Bool) → segment (commonAdjust o) (λ t. b + t) l
-      ≡ set (set l (b + 1) (adjustedP0 o (getD l b 0) (tap l b 1) (tap l b 2) (tap l b 3))) (b + 1 + 1) (adjustedQ0 o (getD l b 0) (tap l b 1) (tap l b 2) (tap l b 3))
-  unfolding segment taps half smooth gather scatter K.commonAdjust
+      ≡ adjustedAt o l (b + 1) (getD l b 0) (tap l b 1) (tap l b 2) (tap l b 3)
+  unfolding segment taps half smooth gather scatter K.commonAdjust adjustedAt
   common-window o =
       let e : b + 2 ≡ b + 1 + 1 = omega arith in
       λ i. set (set l (b + 1) (adjustedP0 o (first i) (tap l b 1) (tap l b 2) (tap l b 3))) (e i) (adjustedQ0 o (first i) (tap l b 1) (tap l b 2) (tap l b 3))
 
   pub simple-window : (e : ℕ) → segment (simpleSegment e) (λ t. b + t) l
-      ≡ cond (simpleYes e (getD l b 0) (tap l b 1) (tap l b 2) (tap l b 3)) (segment (commonAdjust true) (λ t. b + t) l) l
+      ≡ cond (simpleYes e (getD l b 0) (tap l b 1) (tap l b 2) (tap l b 3)) (adjustedAt true l (b + 1) (getD l b 0) (tap l b 1) (tap l b 2) (tap l b 3)) l
   unfolding segment taps half smooth gather scatter K.simpleSegment
   simple-window e =
       one (λ ts. scatter (λ t. b + t) 1 (take 2 (drop 1 ts)) l) (simpleYes e (getD l (b + 0) 0) (tap l b 1) (tap l b 2) (tap l b 3)) _ _
-      ∙ (λ i. cond (simpleYes e (first i) (tap l b 1) (tap l b 2) (tap l b 3)) (segment (commonAdjust true) (λ t. b + t) l) (kept i))
+      ∙ (λ i. cond (simpleYes e (first i) (tap l b 1) (tap l b 2) (tap l b 3)) (common-window true i) (kept i))
     where
       kept : set (set l (b + 1) (tap l b 1)) (b + 2) (tap l b 2) ≡ l
       kept = simp set-getD
@@ -109,12 +101,17 @@ module _ (l : List ℕ) (b : ℕ) where
   abbrev stored : List ℕ → List ℕ
   stored ts = scatter (λ t. b + t) 1 (take 6 (drop 1 ts)) l
 
-  pub subblock-window : (t i e : ℕ) → segment (subblockFilter t i e) (λ j. b + j) l ≡ cond (yesAt i e l b) (softened t l b) l
-  unfolding segment taps half smooth gather scatter K.subblockFilter yesAt softened adjustedIn
+  pub subblock-window : (t i e : ℕ) → segment (subblockFilter t i e) (λ j. b + j) l
+      ≡ cond (neighboursNear i (getD l b 0) (tap l b 1) (tap l b 2) (tap l b 3) (tap l b 4) (tap l b 5) (tap l b 6) (tap l b 7))
+      (cond (simpleYes e (tap l b 2) (tap l b 3) (tap l b 4) (tap l b 5)) (softened t l b (tap l b 2) (tap l b 3) (tap l b 4) (tap l b 5)) l) l
+  unfolding segment taps half smooth gather scatter K.subblockFilter softened softenedFour adjustedAt
   subblock-window t i e =
       both stored (segmentYes i e (getD l (b + 0) 0) (tap l b 1) (tap l b 2) (tap l b 3) (tap l b 4) (tap l b 5) (tap l b 6) (tap l b 7)) (segmentHev t (tap l b 2) (tap l b 3) (tap l b 4) (tap l b 5)) _ _ _
       ∙ (λ j. cond (segmentYes i e (first j) (tap l b 1) (tap l b 2) (tap l b 3) (tap l b 4) (tap l b 5) (tap l b 6) (tap l b 7))
       (cond (segmentHev t (tap l b 2) (tap l b 3) (tap l b 4) (tap l b 5)) (edge-only (adjustedP0 true (tap l b 2) (tap l b 3) (tap l b 4) (tap l b 5)) (adjustedQ0 true (tap l b 2) (tap l b 3) (tap l b 4) (tap l b 5)) j) (four-only (s2u (u2s (tap l b 2) +ℤ outerStep (tap l b 2) (tap l b 3) (tap l b 4) (tap l b 5))) (adjustedP0 false (tap l b 2) (tap l b 3) (tap l b 4) (tap l b 5)) (adjustedQ0 false (tap l b 2) (tap l b 3) (tap l b 4) (tap l b 5)) (s2u (u2s (tap l b 5) -ℤ outerStep (tap l b 2) (tap l b 3) (tap l b 4) (tap l b 5))) j)) (six-kept j))
+      ∙ yes-in-turn i e (getD l b 0) (tap l b 1) (tap l b 2) (tap l b 3) (tap l b 4) (tap l b 5) (tap l b 6) (tap l b 7) _ l
+      ∙ ap (λ (x : List ℕ). cond (neighboursNear i (getD l b 0) (tap l b 1) (tap l b 2) (tap l b 3) (tap l b 4) (tap l b 5) (tap l b 6) (tap l b 7)) (cond (simpleYes e (tap l b 2) (tap l b 3) (tap l b 4) (tap l b 5)) x l) l)
+      (hev-low t (tap l b 2) (tap l b 3) (tap l b 4) (tap l b 5) _ _)
     where
       -- six samples stored, of which the inner four are new
       four-only : (x y z w : ℕ) → set (set (set (set (set (set l (b + 1) (tap l b 1)) (b + 2) x) (b + 3) y) (b + 4) z) (b + 5) w) (b + 6) (tap l b 6)
@@ -145,12 +142,17 @@ module _ (l : List ℕ) (b : ℕ) where
           e5 : b + 5 ≡ b + 2 + 3
           e5 = omega arith
 
-  pub mb-window : (t i e : ℕ) → segment (mbFilter t i e) (λ j. b + j) l ≡ cond (yesAt i e l b) (widenedBy t l b) l
-  unfolding segment taps half smooth gather scatter K.mbFilter yesAt widenedBy adjustedIn
+  pub mb-window : (t i e : ℕ) → segment (mbFilter t i e) (λ j. b + j) l
+      ≡ cond (neighboursNear i (getD l b 0) (tap l b 1) (tap l b 2) (tap l b 3) (tap l b 4) (tap l b 5) (tap l b 6) (tap l b 7))
+      (cond (simpleYes e (tap l b 2) (tap l b 3) (tap l b 4) (tap l b 5)) (widened t l b (tap l b 1) (tap l b 2) (tap l b 3) (tap l b 4) (tap l b 5) (tap l b 6)) l) l
+  unfolding segment taps half smooth gather scatter K.mbFilter widened widenedSix adjustedAt
   mb-window t i e =
       both stored (segmentYes i e (getD l (b + 0) 0) (tap l b 1) (tap l b 2) (tap l b 3) (tap l b 4) (tap l b 5) (tap l b 6) (tap l b 7)) (segmentHev t (tap l b 2) (tap l b 3) (tap l b 4) (tap l b 5)) _ _ _
       ∙ (λ j. cond (segmentYes i e (first j) (tap l b 1) (tap l b 2) (tap l b 3) (tap l b 4) (tap l b 5) (tap l b 6) (tap l b 7))
       (cond (segmentHev t (tap l b 2) (tap l b 3) (tap l b 4) (tap l b 5)) (edge-only (adjustedP0 true (tap l b 2) (tap l b 3) (tap l b 4) (tap l b 5)) (adjustedQ0 true (tap l b 2) (tap l b 3) (tap l b 4) (tap l b 5)) j) (six-at (gains 9 1) (gains 18 2) (gains 27 3) (loses 27 4) (loses 18 5) (loses 9 6) j)) (six-kept j))
+      ∙ yes-in-turn i e (getD l b 0) (tap l b 1) (tap l b 2) (tap l b 3) (tap l b 4) (tap l b 5) (tap l b 6) (tap l b 7) _ l
+      ∙ ap (λ (x : List ℕ). cond (neighboursNear i (getD l b 0) (tap l b 1) (tap l b 2) (tap l b 3) (tap l b 4) (tap l b 5) (tap l b 6) (tap l b 7)) (cond (simpleYes e (tap l b 2) (tap l b 3) (tap l b 4) (tap l b 5)) x l) l)
+      (hev-low t (tap l b 2) (tap l b 3) (tap l b 4) (tap l b 5) _ _)
     where
       gains : ℕ → ℕ → ℕ
       gains k j = s2u (u2s (tap l b j) +ℤ part k (wideValue (tap l b 2) (tap l b 3) (tap l b 4) (tap l b 5)))

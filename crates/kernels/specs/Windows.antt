@@ -1,45 +1,71 @@
--- What the private functions below the kernels' entries promise, on the window of a slice at `base`: steps of the proof, which no public contract cites.
-use mathlib.Core.Bool.{Bool, true, false, cond}
+-- What the private functions below the kernels' entries promise: steps of the proof, which no public contract cites.
+-- A capital letter is a sample as stored, 0..255.
+use mathlib.Core.Bool.{Bool, true, false, cond, _&&_}
 use mathlib.Core.List.{List}
 use Prim.Native.Nat.{ℕ, _+_}
-use lib.ListN.{getD, set}
-use lib.IntN.{ℤ, pos, _+ℤ_, _-ℤ_}
+use lib.Dec.{leb}
+use lib.ListN.{set}
+use lib.IntN.{ℤ, pos, _+ℤ_, _-ℤ_, natAbs}
+use lib.Signed.{ltZ, leZ}
 use Rattle.kernels.specs.Numbers.{u2s, s2u}
-use Rattle.kernels.specs.Kernels.{segmentYes, segmentHev, adjustedP0, adjustedQ0, outerStep, part, wideValue}
+use Rattle.kernels.specs.Kernels.{apart, adjustedP0, adjustedQ0, outerStep, part, wideValue}
 
--- the sample k places after base
-abbrev pub tap : List ℕ → ℕ → ℕ → ℕ
-tap l base k = getD l (base + k) 0
+-- ---- tests
 
-unfoldable pub yesAt : (interior edge : ℕ) → List ℕ → (base : ℕ) → Bool
-yesAt interior edge l b = segmentYes interior edge (getD l b 0) (tap l b 1) (tap l b 2) (tap l b 3) (tap l b 4) (tap l b 5) (tap l b 6) (tap l b 7)
+-- what filter_yes tests beside the edge
+unfoldable pub neighboursNear : (interior P3 P2 P1 P0 Q0 Q1 Q2 Q3 : ℕ) → Bool
+neighboursNear interior P3 P2 P1 P0 Q0 Q1 Q2 Q3 =
+    leb (apart (pos P3) (pos P2)) interior && leb (apart (pos P2) (pos P1)) interior && leb (apart (pos P1) (pos P0)) interior
+    && leb (apart (pos Q3) (pos Q2)) interior && leb (apart (pos Q2) (pos Q1)) interior && leb (apart (pos Q1) (pos Q0)) interior
 
--- the two samples at the edge adjusted with the outer taps
-unfoldable pub adjustedIn : List ℕ → ℕ → List ℕ
-adjustedIn l b =
-    set (set l (b + 3) (adjustedP0 true (tap l b 2) (tap l b 3) (tap l b 4) (tap l b 5)))
-    (b + 3 + 1) (adjustedQ0 true (tap l b 2) (tap l b 3) (tap l b 4) (tap l b 5))
+-- the negation of hev
+unfoldable pub lowVariance : (threshold P1 P0 Q0 Q1 : ℕ) → Bool
+lowVariance threshold P1 P0 Q0 Q1 = leb (apart (pos P1) (pos P0)) threshold && leb (apart (pos Q1) (pos Q0)) threshold
 
--- subblock_filter where its test passes
-unfoldable pub softened : (threshold : ℕ) → List ℕ → (base : ℕ) → List ℕ
-softened threshold l b =
-    cond (segmentHev threshold (tap l b 2) (tap l b 3) (tap l b 4) (tap l b 5))
-    (adjustedIn l b)
-    (set (set (set (set l
-    (b + 2) (s2u (u2s (tap l b 2) +ℤ outerStep (tap l b 2) (tap l b 3) (tap l b 4) (tap l b 5))))
-    (b + 2 + 1) (adjustedP0 false (tap l b 2) (tap l b 3) (tap l b 4) (tap l b 5)))
-    (b + 2 + 2) (adjustedQ0 false (tap l b 2) (tap l b 3) (tap l b 4) (tap l b 5)))
-    (b + 2 + 3) (s2u (u2s (tap l b 5) -ℤ outerStep (tap l b 2) (tap l b 3) (tap l b 4) (tap l b 5))))
+-- ---- numbers
 
--- mb_filter where its test passes
-unfoldable pub widenedBy : (threshold : ℕ) → List ℕ → (base : ℕ) → List ℕ
-widenedBy threshold l b =
-    cond (segmentHev threshold (tap l b 2) (tap l b 3) (tap l b 4) (tap l b 5))
-    (adjustedIn l b)
-    (set (set (set (set (set (set l
-    (b + 1) (s2u (u2s (tap l b 1) +ℤ part 9 (wideValue (tap l b 2) (tap l b 3) (tap l b 4) (tap l b 5)))))
-    (b + 1 + 1) (s2u (u2s (tap l b 2) +ℤ part 18 (wideValue (tap l b 2) (tap l b 3) (tap l b 4) (tap l b 5)))))
-    (b + 1 + 2) (s2u (u2s (tap l b 3) +ℤ part 27 (wideValue (tap l b 2) (tap l b 3) (tap l b 4) (tap l b 5)))))
-    (b + 1 + 3) (s2u (u2s (tap l b 4) -ℤ part 27 (wideValue (tap l b 2) (tap l b 3) (tap l b 4) (tap l b 5)))))
-    (b + 1 + 4) (s2u (u2s (tap l b 5) -ℤ part 18 (wideValue (tap l b 2) (tap l b 3) (tap l b 4) (tap l b 5)))))
-    (b + 1 + 5) (s2u (u2s (tap l b 6) -ℤ part 9 (wideValue (tap l b 2) (tap l b 3) (tap l b 4) (tap l b 5)))))
+unfoldable pub atMost123 : ℤ → ℤ
+atMost123 v = cond (ltZ v (pos 123)) v (pos 123)
+
+unfoldable pub inByte : ℤ → Bool
+inByte v = leZ (pos 0) v && ltZ v (pos 256)
+
+-- limits to 0..255
+unfoldable pub cut : ℤ → ℕ
+cut v = cond (ltZ v (pos 0)) 0 (cond (ltZ v (pos 256)) (natAbs v) 255)
+
+-- ---- samples stored next to one another, from `at` on
+
+-- the two at the edge after common_adjust
+unfoldable pub adjustedAt : (outer : Bool) → List ℕ → (at P1 P0 Q0 Q1 : ℕ) → List ℕ
+adjustedAt outer l at P1 P0 Q0 Q1 = set (set l at (adjustedP0 outer P1 P0 Q0 Q1)) (at + 1) (adjustedQ0 outer P1 P0 Q0 Q1)
+
+-- the inner four after subblock_filter without high variance
+unfoldable pub softenedFour : List ℕ → (at P1 P0 Q0 Q1 : ℕ) → List ℕ
+softenedFour l at P1 P0 Q0 Q1 =
+    set (set (set (set l
+    at (s2u (u2s P1 +ℤ outerStep P1 P0 Q0 Q1)))
+    (at + 1) (adjustedP0 false P1 P0 Q0 Q1))
+    (at + 2) (adjustedQ0 false P1 P0 Q0 Q1))
+    (at + 3) (s2u (u2s Q1 -ℤ outerStep P1 P0 Q0 Q1))
+
+-- the inner six after mb_filter without high variance
+unfoldable pub widenedSix : List ℕ → (at P2 P1 P0 Q0 Q1 Q2 : ℕ) → List ℕ
+widenedSix l at P2 P1 P0 Q0 Q1 Q2 =
+    set (set (set (set (set (set l
+    at (s2u (u2s P2 +ℤ part 9 (wideValue P1 P0 Q0 Q1))))
+    (at + 1) (s2u (u2s P1 +ℤ part 18 (wideValue P1 P0 Q0 Q1))))
+    (at + 2) (s2u (u2s P0 +ℤ part 27 (wideValue P1 P0 Q0 Q1))))
+    (at + 3) (s2u (u2s Q0 -ℤ part 27 (wideValue P1 P0 Q0 Q1))))
+    (at + 4) (s2u (u2s Q1 -ℤ part 18 (wideValue P1 P0 Q0 Q1))))
+    (at + 5) (s2u (u2s Q2 -ℤ part 9 (wideValue P1 P0 Q0 Q1)))
+
+-- ---- a window of eight at `base`, where the kernel's tests pass
+
+unfoldable pub softened : (threshold : ℕ) → List ℕ → (base P1 P0 Q0 Q1 : ℕ) → List ℕ
+softened threshold l base P1 P0 Q0 Q1 =
+    cond (lowVariance threshold P1 P0 Q0 Q1) (softenedFour l (base + 2) P1 P0 Q0 Q1) (adjustedAt true l (base + 3) P1 P0 Q0 Q1)
+
+unfoldable pub widened : (threshold : ℕ) → List ℕ → (base P2 P1 P0 Q0 Q1 Q2 : ℕ) → List ℕ
+widened threshold l base P2 P1 P0 Q0 Q1 Q2 =
+    cond (lowVariance threshold P1 P0 Q0 Q1) (widenedSix l (base + 1) P2 P1 P0 Q0 Q1 Q2) (adjustedAt true l (base + 3) P1 P0 Q0 Q1)

@@ -1,22 +1,22 @@
 // RFC 6386, sections 15.2 and 15.3: the kernels on the window of a slice that starts at `base`.
 use crate::answers::AdjustAnswer;
 use crate::answers::KernelAnswer;
-use crate::store::put2;
-use crate::store::put4;
-use crate::store::put6;
-use crate::values::adjusted;
-use crate::values::outer_pair;
-use crate::values::segment_hev;
-use crate::values::segment_yes;
+use crate::store::cut2;
+use crate::store::cut4;
+use crate::store::cut6;
+use crate::values::at_most_123;
+use crate::values::filter_value;
+use crate::values::low_variance;
+use crate::values::neighbours_near;
 use crate::values::simple_yes;
-use crate::values::widened;
 ghost use mathlib.Core.Path.{_≡_};
+ghost use mathlib.Core.Bool.{cond};
 ghost use Prim.Native.Nat.{_+_, _≤_};
 ghost use lib.Dec.{leb};
 ghost use lib.ListN.{length, getD};
 ghost use Rattle.kernels.specs.Answers.{adjustOutcome, kernelOutcome};
-ghost use Rattle.kernels.specs.Kernels.{adjustment};
-ghost use Rattle.kernels.specs.Windows.{yesAt, softened, widenedBy};
+ghost use Rattle.kernels.specs.Kernels.{adjustment, simpleYes};
+ghost use Rattle.kernels.specs.Windows.{adjustedAt, softenedFour, softened, widenedSix, widened};
 ghost use Rattle.kernels.specs.Segment.{commonAdjust, simpleSegment, subblockFilter, mbFilter, segment, windowed, windowAnswer, adjustAnswer};
 
 // A window of `taps` samples fits at base of a slice of n samples. No sum of the two can wrap.
@@ -29,21 +29,29 @@ fn has_window(n: usize, taps: usize, base: usize) -> bool
     base <= n - taps
 }
 
+// p0 and q0 after common_adjust, stored at `at`, and what it answers. With a at most 123 neither sum needs c, and neither quotient changes.
+fn adjust(outer: bool, seg: &mut [u8], at: usize, p1: u8, p0: u8, q0: u8, q1: u8) -> i64
+    requires { ⌜ at + 2 ≤ length (now seg) ⌝ }
+    ensures { λ r. ⌜ r ≡ adjustment outer p1 p0 q0 q1 ⌝ }
+    ensures { λ _. ⌜ now (seg .exit) ≡ adjustedAt outer (now (seg .entry)) at p1 p0 q0 q1 ⌝ }
+{
+    let a = at_most_123(filter_value(outer, p1, p0, q0, q1));
+    let loss = (a + 4) >> 3;
+    cut2(seg, at, p0 as i64 + ((a + 3) >> 3), q0 as i64 - loss);
+    loss
+}
+
 // The window p1 p0 q0 q1 at base, which fits.
-fn common_adjust_at(outer: bool, seg: &mut [u8], base: usize) -> i8
+fn common_adjust_at(outer: bool, seg: &mut [u8], base: usize) -> i64
     requires { ⌜ base + 4 ≤ length (now seg) ⌝ }
     ensures { λ r. ⌜ r ≡ adjustment outer (getD (now (seg .entry)) base 0) (getD (now (seg .entry)) (base + 1) 0) (getD (now (seg .entry)) (base + 2) 0) (getD (now (seg .entry)) (base + 3) 0) ⌝ }
     ensures { λ _. ⌜ now (seg .exit) ≡ segment (commonAdjust outer) (λ t. base + t) (now (seg .entry)) ⌝ }
 {
-    let s = adjusted(
-        outer,
-        seg[base],
-        seg[base + 1],
-        seg[base + 2],
-        seg[base + 3],
-    );
-    put2(seg, base + 1, s.p0, s.q0);
-    s.by
+    let p1 = seg[base];
+    let p0 = seg[base + 1];
+    let q0 = seg[base + 2];
+    let q1 = seg[base + 3];
+    adjust(outer, seg, base + 1, p1, p0, q0, q1)
 }
 
 pub fn common_adjust(use_outer_taps: bool, seg: &mut [u8], base: usize) -> AdjustAnswer
@@ -62,8 +70,12 @@ fn simple_segment_at(edge: u8, seg: &mut [u8], base: usize)
     requires { ⌜ base + 4 ≤ length (now seg) ⌝ }
     ensures { λ _. ⌜ now (seg .exit) ≡ segment (simpleSegment edge) (λ t. base + t) (now (seg .entry)) ⌝ }
 {
-    if simple_yes(edge, seg[base], seg[base + 1], seg[base + 2], seg[base + 3]) {
-        common_adjust_at(true, seg, base);
+    let p1 = seg[base];
+    let p0 = seg[base + 1];
+    let q0 = seg[base + 2];
+    let q1 = seg[base + 3];
+    if simple_yes(edge, p1, p0, q0, q1) {
+        adjust(true, seg, base + 1, p1, p0, q0, q1);
     }
 }
 
@@ -79,41 +91,51 @@ pub fn simple_segment(edge_limit: u8, seg: &mut [u8], base: usize) -> KernelAnsw
     }
 }
 
-// The normal test of the window p3 .. q3 at base, which fits.
-fn yes_at(interior: u8, edge: u8, seg: &[u8], base: usize) -> bool
-    requires { ⌜ base + 8 ≤ length (now seg) ⌝ }
-    ensures { λ r. ⌜ r ≡ yesAt interior edge (now (seg .entry)) base ⌝ }
+// The inner four samples after subblock_filter without high variance, stored at `at`. Half of the answer is (a + 12) >> 4.
+fn soften_four(seg: &mut [u8], at: usize, p1: u8, p0: u8, q0: u8, q1: u8)
+    requires { ⌜ at + 4 ≤ length (now seg) ⌝ }
+    ensures { λ _. ⌜ now (seg .exit) ≡ softenedFour (now (seg .entry)) at p1 p0 q0 q1 ⌝ }
 {
-    segment_yes(
-        interior,
-        edge,
-        seg[base],
-        seg[base + 1],
-        seg[base + 2],
-        seg[base + 3],
-        seg[base + 4],
-        seg[base + 5],
-        seg[base + 6],
-        seg[base + 7],
-    )
+    let a = at_most_123(filter_value(false, p1, p0, q0, q1));
+    let half = (a + 12) >> 4;
+    cut4(
+        seg,
+        at,
+        p1 as i64 + half,
+        p0 as i64 + ((a + 3) >> 3),
+        q0 as i64 - ((a + 4) >> 3),
+        q1 as i64 - half,
+    );
 }
 
-// subblock_filter where its test passes, on the window p3 .. q3 at base, which fits.
-fn soften(threshold: u8, seg: &mut [u8], base: usize)
+// subblock_filter where its tests pass, on the window at base, which fits.
+fn soften(threshold: u8, seg: &mut [u8], base: usize, p1: u8, p0: u8, q0: u8, q1: u8)
     requires { ⌜ base + 8 ≤ length (now seg) ⌝ }
-    ensures { λ _. ⌜ now (seg .exit) ≡ softened threshold (now (seg .entry)) base ⌝ }
+    ensures { λ _. ⌜ now (seg .exit) ≡ softened threshold (now (seg .entry)) base p1 p0 q0 q1 ⌝ }
 {
-    let p1 = seg[base + 2];
-    let p0 = seg[base + 3];
-    let q0 = seg[base + 4];
-    let q1 = seg[base + 5];
-    if segment_hev(threshold, p1, p0, q0, q1) {
-        let s = adjusted(true, p1, p0, q0, q1);
-        put2(seg, base + 3, s.p0, s.q0);
+    if low_variance(threshold, p1, p0, q0, q1) {
+        soften_four(seg, base + 2, p1, p0, q0, q1);
     } else {
-        let s = adjusted(false, p1, p0, q0, q1);
-        let o = outer_pair(p1, q1, s.by);
-        put4(seg, base + 2, o.p1, s.p0, s.q0, o.q1);
+        adjust(true, seg, base + 3, p1, p0, q0, q1);
+    }
+}
+
+// subblock_filter where the neighbours are near, on the window at base, which fits.
+fn subblock_at_edge(
+    threshold: u8,
+    edge: u8,
+    seg: &mut [u8],
+    base: usize,
+    p1: u8,
+    p0: u8,
+    q0: u8,
+    q1: u8,
+)
+    requires { ⌜ base + 8 ≤ length (now seg) ⌝ }
+    ensures { λ _. ⌜ now (seg .exit) ≡ cond (simpleYes edge p1 p0 q0 q1) (softened threshold (now (seg .entry)) base p1 p0 q0 q1) (now (seg .entry)) ⌝ }
+{
+    if simple_yes(edge, p1, p0, q0, q1) {
+        soften(threshold, seg, base, p1, p0, q0, q1);
     }
 }
 
@@ -122,8 +144,16 @@ fn subblock_filter_at(threshold: u8, interior: u8, edge: u8, seg: &mut [u8], bas
     requires { ⌜ base + 8 ≤ length (now seg) ⌝ }
     ensures { λ _. ⌜ now (seg .exit) ≡ segment (subblockFilter threshold interior edge) (λ t. base + t) (now (seg .entry)) ⌝ }
 {
-    if yes_at(interior, edge, seg, base) {
-        soften(threshold, seg, base);
+    let p3 = seg[base];
+    let p2 = seg[base + 1];
+    let p1 = seg[base + 2];
+    let p0 = seg[base + 3];
+    let q0 = seg[base + 4];
+    let q1 = seg[base + 5];
+    let q2 = seg[base + 6];
+    let q3 = seg[base + 7];
+    if neighbours_near(interior, p3, p2, p1, p0, q0, q1, q2, q3) {
+        subblock_at_edge(threshold, edge, seg, base, p1, p0, q0, q1);
     }
 }
 
@@ -145,21 +175,57 @@ pub fn subblock_filter(
     }
 }
 
-// mb_filter where its test passes, on the window p3 .. q3 at base, which fits.
-fn widen(threshold: u8, seg: &mut [u8], base: usize)
-    requires { ⌜ base + 8 ≤ length (now seg) ⌝ }
-    ensures { λ _. ⌜ now (seg .exit) ≡ widenedBy threshold (now (seg .entry)) base ⌝ }
+// The inner six samples after mb_filter without high variance, stored at `at`. w is a signed byte, so no part of it needs c.
+fn widen_six(seg: &mut [u8], at: usize, p2: u8, p1: u8, p0: u8, q0: u8, q1: u8, q2: u8)
+    requires { ⌜ at + 6 ≤ length (now seg) ⌝ }
+    ensures { λ _. ⌜ now (seg .exit) ≡ widenedSix (now (seg .entry)) at p2 p1 p0 q0 q1 q2 ⌝ }
 {
-    let p1 = seg[base + 2];
-    let p0 = seg[base + 3];
-    let q0 = seg[base + 4];
-    let q1 = seg[base + 5];
-    if segment_hev(threshold, p1, p0, q0, q1) {
-        let s = adjusted(true, p1, p0, q0, q1);
-        put2(seg, base + 3, s.p0, s.q0);
+    let w = filter_value(true, p1, p0, q0, q1);
+    let a0 = (27 * w + 63) >> 7;
+    let a1 = (18 * w + 63) >> 7;
+    let a2 = (9 * w + 63) >> 7;
+    cut6(
+        seg,
+        at,
+        p2 as i64 + a2,
+        p1 as i64 + a1,
+        p0 as i64 + a0,
+        q0 as i64 - a0,
+        q1 as i64 - a1,
+        q2 as i64 - a2,
+    );
+}
+
+// mb_filter where its tests pass, on the window at base, which fits.
+fn widen(threshold: u8, seg: &mut [u8], base: usize, p2: u8, p1: u8, p0: u8, q0: u8, q1: u8, q2: u8)
+    requires { ⌜ base + 8 ≤ length (now seg) ⌝ }
+    ensures { λ _. ⌜ now (seg .exit) ≡ widened threshold (now (seg .entry)) base p2 p1 p0 q0 q1 q2 ⌝ }
+{
+    if low_variance(threshold, p1, p0, q0, q1) {
+        widen_six(seg, base + 1, p2, p1, p0, q0, q1, q2);
     } else {
-        let s = widened(seg[base + 1], p1, p0, q0, q1, seg[base + 6]);
-        put6(seg, base + 1, s.p2, s.p1, s.p0, s.q0, s.q1, s.q2);
+        adjust(true, seg, base + 3, p1, p0, q0, q1);
+    }
+}
+
+// mb_filter where the neighbours are near, on the window at base, which fits.
+fn mb_at_edge(
+    threshold: u8,
+    edge: u8,
+    seg: &mut [u8],
+    base: usize,
+    p2: u8,
+    p1: u8,
+    p0: u8,
+    q0: u8,
+    q1: u8,
+    q2: u8,
+)
+    requires { ⌜ base + 8 ≤ length (now seg) ⌝ }
+    ensures { λ _. ⌜ now (seg .exit) ≡ cond (simpleYes edge p1 p0 q0 q1) (widened threshold (now (seg .entry)) base p2 p1 p0 q0 q1 q2) (now (seg .entry)) ⌝ }
+{
+    if simple_yes(edge, p1, p0, q0, q1) {
+        widen(threshold, seg, base, p2, p1, p0, q0, q1, q2);
     }
 }
 
@@ -168,8 +234,16 @@ fn mb_filter_at(threshold: u8, interior: u8, edge: u8, seg: &mut [u8], base: usi
     requires { ⌜ base + 8 ≤ length (now seg) ⌝ }
     ensures { λ _. ⌜ now (seg .exit) ≡ segment (mbFilter threshold interior edge) (λ t. base + t) (now (seg .entry)) ⌝ }
 {
-    if yes_at(interior, edge, seg, base) {
-        widen(threshold, seg, base);
+    let p3 = seg[base];
+    let p2 = seg[base + 1];
+    let p1 = seg[base + 2];
+    let p0 = seg[base + 3];
+    let q0 = seg[base + 4];
+    let q1 = seg[base + 5];
+    let q2 = seg[base + 6];
+    let q3 = seg[base + 7];
+    if neighbours_near(interior, p3, p2, p1, p0, q0, q1, q2, q3) {
+        mb_at_edge(threshold, edge, seg, base, p2, p1, p0, q0, q1, q2);
     }
 }
 

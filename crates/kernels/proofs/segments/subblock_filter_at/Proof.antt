@@ -1,44 +1,101 @@
 -- `kernels::segments::subblock_filter_at` meets its contract.
 -- Assumes nothing.
 use borrow.Author.Needs.{needs}
-use mathlib.Core.Path.{sym, ap, _∙_}
-use mathlib.Core.Bool.{Bool, cond}
+use mathlib.Core.Path.{sym, _∙_}
 use denote.Ref.{now}
-use Rattle.kernels.specs.Windows.{softened}
-use Rattle.kernels.proofs.Windows.{subblock-window}
+use Rattle.kernels.proofs.Windows.{taken, left, subblock-window}
 use Rattle.kernels.proofs.segments.subblock_filter_at.Statement.{statement}
 use Rattle.kernels.proofs.segments.subblock_filter_at.Tie as tie
 
-yes-at-requires : tie.Need-yes-at-requires
-yes-at-requires c κs = search needs
+slice-read-p3 : tie.Need-slice-read-p3
+slice-read-p3 c = search needs
 
-soften-requires : tie.Need-soften-requires
-soften-requires c κs = search needs
+add-p2 : tie.Need-add-p2
+add-p2 c = search needs
+
+slice-read-p2 : tie.Need-slice-read-p2
+slice-read-p2 c = search needs
+
+add-p1 : tie.Need-add-p1
+add-p1 c = search needs
+
+slice-read-p1 : tie.Need-slice-read-p1
+slice-read-p1 c = search needs
+
+add-p0 : tie.Need-add-p0
+add-p0 c = search needs
+
+slice-read-p0 : tie.Need-slice-read-p0
+slice-read-p0 c = search needs
+
+add-q0 : tie.Need-add-q0
+add-q0 c = search needs
+
+slice-read-q0 : tie.Need-slice-read-q0
+slice-read-q0 c = search needs
+
+add-q1 : tie.Need-add-q1
+add-q1 c = search needs
+
+slice-read-q1 : tie.Need-slice-read-q1
+slice-read-q1 c = search needs
+
+add-q2 : tie.Need-add-q2
+add-q2 c = search needs
+
+slice-read-q2 : tie.Need-slice-read-q2
+slice-read-q2 c = search needs
+
+add-q3 : tie.Need-add-q3
+add-q3 c = search needs
+
+slice-read-q3 : tie.Need-slice-read-q3
+slice-read-q3 c = search needs
+
+neighbours-near-requires : tie.Need-neighbours-near-requires
+neighbours-near-requires c κs = search needs
+
+subblock-at-edge-requires : tie.Need-subblock-at-edge-requires
+subblock-at-edge-requires c κs = search needs
 
 same-length : tie.Need-same-length
 same-length c = search needs
 
 returns : tie.Need-returns
 returns c =
-    let j = c .before .before in
-    let t = j .before .before in
+    let p = c .before .before in
+    let t = p .before .before in
     let y = t .before in
-    let x = y .before .before .before .args in
-    let s = now (x .seg) in
-    j .soften .ensures
-    ∙ sym (subblock-window s (x .base) (x .threshold) (x .interior) (x .edge) ∙ ap (λ (u : Bool). cond u (softened (x .threshold) s (x .base)) s) (sym (y .yes-at .ensures) ∙ t .if1 .taken))
-
-same-length-2 : tie.Need-same-length-2
-same-length-2 c = search needs
+    let x = y .before .before .before .before .before .before .before .before .before .before .args in
+    p .subblock-at-edge .ensures ∙ sym (subblock-window (now (x .seg)) (x .base) (x .threshold) (x .interior) (x .edge) ∙ taken _ _ (y .neighbours-near .ensures) (t .if1 .taken))
 
 returns-2 : tie.Need-returns-2
 returns-2 c =
     let y = c .before in
-    let x = y .before .before .before .args in
-    let s = now (x .seg) in
-    sym (subblock-window s (x .base) (x .threshold) (x .interior) (x .edge) ∙ ap (λ (u : Bool). cond u (softened (x .threshold) s (x .base)) s) (sym (y .yes-at .ensures) ∙ c .if1 .left))
+    let x = y .before .before .before .before .before .before .before .before .before .before .args in
+    sym (subblock-window (now (x .seg)) (x .base) (x .threshold) (x .interior) (x .edge) ∙ left _ _ (y .neighbours-near .ensures) (c .if1 .left))
 
 pub subblock-filter-at-spec : {M : Type 1} → statement M
 subblock-filter-at-spec =
     tie.close
-    (tie.spec yes-at-requires soften-requires same-length returns same-length-2 returns-2)
+    (tie.spec
+    slice-read-p3
+    add-p2
+    slice-read-p2
+    add-p1
+    slice-read-p1
+    add-p0
+    slice-read-p0
+    add-q0
+    slice-read-q0
+    add-q1
+    slice-read-q1
+    add-q2
+    slice-read-q2
+    add-q3
+    slice-read-q3
+    neighbours-near-requires
+    subblock-at-edge-requires
+    same-length
+    returns
+    returns-2)

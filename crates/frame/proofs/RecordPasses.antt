@@ -1,0 +1,117 @@
+-- The passes over lists of records: what the two have in common, and what the walk of their code asks of the steps. Assumes nothing.
+use mathlib.Core.Path.{_≡_, refl, sym, ap, _∙_}
+use mathlib.Core.Bool.{true, false}
+use mathlib.Core.List.{List}
+use Prim.Native.Nat.{ℕ, _+_, _-_, _≤_, _<_}
+use native.Mathlib.Omega.{arith}
+use lib.Dec.{eqb}
+use lib.ListN.{length, getD}
+use borrow.Author.Tests.{eqb-true, not-false}
+use Rattle.levels.specs.declared.config.FrameFilterConfig.{FrameFilterConfig}
+use Rattle.frame.specs.Steps.{steps}
+use Rattle.frame.specs.Planes.{luma, chromaU, chromaV, Planes, macroblocks}
+use Rattle.frame.specs.Macroblock.{filterMacroblock}
+use Rattle.frame.specs.Entries.{Entry, KeyCarried, InterCarried, keyRecord, interRecord, noRecord, otherLength}
+use Rattle.frame.specs.Pass.{Pass, keyPass, interPass, Call, step}
+use Rattle.frame.specs.Layout.{gridOf}
+use Rattle.frame.specs.Answers.{Passed}
+use Rattle.frame.specs.Step.{Sound}
+use Rattle.frame.specs.Planner.{otherThan, planOf}
+use Rattle.frame.specs.declared.layout.PlaneLayout.{PlaneLayout}
+use Rattle.frame.specs.declared.plan.PassPlan.{PassPlan}
+use Rattle.frame.specs.declared.records.MacroblockModes.{MacroblockModes}
+use Rattle.frame.proofs.Alike.{length-steps}
+use Rattle.frame.proofs.Plans.{Sized, Meets, sound, sound-kept, plan-meets}
+use Rattle.frame.proofs.Steps.{steps-last}
+
+-- a pass, and what it makes of a list of records
+pub record OfRecords : Type 1 where
+  pub pass : Pass
+  pub carry : List MacroblockModes → pass .Carried
+  pub says : MacroblockModes → Entry
+  pub entries : (rs : List MacroblockModes) (m : ℕ) → says (getD rs m noRecord) ≡ pass .entry (carry rs) m
+  pub lengths : (rs : List MacroblockModes) (n : ℕ) → otherLength n rs ≡ pass .otherLength (carry rs) n
+  pub no-bad : (rs : List MacroblockModes) → false ≡ pass .badEntry (carry rs)
+
+abbrev pub keyKind : OfRecords
+keyKind = record { pass = keyPass; carry = KeyCarried.records; says = keyRecord; entries = λ rs m. refl; lengths = λ rs n. refl; no-bad = λ rs. refl }
+
+abbrev pub interKind : OfRecords
+interKind = record { pass = interPass; carry = InterCarried.records; says = interRecord; entries = λ rs m. refl; lengths = λ rs n. refl; no-bad = λ rs. refl }
+
+-- the three planes of one frame are as long as those of another
+pub record Long (p p′ : Planes) : Type 0 where
+  pub y : length (p .y) ≡ length (p′ .y)
+  pub u : length (p .u) ≡ length (p′ .u)
+  pub v : length (p .v) ≡ length (p′ .v)
+
+-- what the planner plans for so many records
+abbrev pub planned : (y u v : ℕ) → PlaneLayout → (entries start allowance : ℕ) → PassPlan
+planned y u v layout entries start allowance = planOf (record {
+  grid = gridOf layout;
+  yLength = y;
+  uLength = u;
+  vLength = v;
+  otherLength = otherThan true entries (macroblocks (gridOf layout));
+  badEntry = false;
+  start = start;
+  allowance = allowance;
+})
+
+same-test : (n : ℕ) (rs : List MacroblockModes) → otherThan true (length rs) n ≡ otherLength n rs
+unfolding otherThan otherLength
+same-test n rs = refl
+
+module _ (K : OfRecords) (layout : PlaneLayout) (config : FrameFilterConfig) (rs : List MacroblockModes) (start allowance : ℕ) (p₀ : Planes) where
+  abbrev pub callOf : Call (K .pass)
+  callOf = record { grid = gridOf layout; settings = config; carried = K .carry rs; lent = p₀; start = start; allowance = allowance }
+
+  -- the planes after n steps
+  abbrev pub planesAt : (from n : ℕ) → Planes
+  planesAt from n = steps (step (K .pass) (gridOf layout) config (K .pass .entry (K .carry rs))) from n p₀
+
+  pub no-step : (from : ℕ) → p₀ ≡ planesAt from 0
+  unfolding steps
+  no-step from = refl
+
+  pub one-step : (from n : ℕ)
+      → filterMacroblock (gridOf layout) (λ _. K .pass .plan config (K .says (getD rs (from + n) noRecord))) (from + n) (planesAt from n) ≡ planesAt from (n + 1)
+  unfolding step filterMacroblock
+  one-step from n =
+      ap (λ (e : Entry). filterMacroblock (gridOf layout) (λ _. K .pass .plan config e) (from + n) (planesAt from n)) (K .entries rs (from + n))
+      ∙ sym (steps-last (step (K .pass) (gridOf layout) config (K .pass .entry (K .carry rs))) from n p₀)
+
+  pub long : (from n : ℕ) → Long (planesAt from n) p₀
+  unfolding step
+  long from n =
+      let h = length-steps (gridOf layout) (λ m. K .pass .plan config (K .pass .entry (K .carry rs) m)) from n p₀ in
+      record { y = h luma; u = h chromaU; v = h chromaV }
+
+  module _ (r : PassPlan) (e : r ≡ planned (length (p₀ .y)) (length (p₀ .u)) (length (p₀ .v)) layout (length rs) start allowance) where
+    met : Meets (K .pass) callOf r
+    met = plan-meets (K .pass) callOf r (e ∙ rw (same-test (macroblocks (gridOf layout)) rs ∙ K .lengths rs (macroblocks (gridOf layout)), K .no-bad rs))
+
+    pub ordered : r .from ≤ r .to
+    ordered = met .ordered
+
+    sized : (m : ℕ) → m < r .to → Sized (K .pass) callOf
+    sized m h = met .sized (omega (arith, h))
+
+    -- macroblock m has its record
+    pub in-list : (m : ℕ) → m < r .to → m < length rs
+    unfolding otherLength
+    in-list m h =
+        omega (arith, h, met .within, eqb-true (length rs) (macroblocks (gridOf layout)) (not-false (eqb (length rs) (macroblocks (gridOf layout))) (K .lengths rs (macroblocks (gridOf layout)) ∙ sized m h .lengths)))
+
+    -- and its step may be done
+    pub ready : (n m : ℕ) → m < r .to → Sound layout (planesAt (r .from) n .y) (planesAt (r .from) n .u) (planesAt (r .from) n .v) × (m < macroblocks (gridOf layout))
+    ready n m h =
+        let s = sized m h in
+        let l = long (r .from) n in (
+          sound-kept layout (p₀ .y) (p₀ .u) (p₀ .v) _ _ _ (l .y) (l .u) (l .v) (sound layout (p₀ .y) (p₀ .u) (p₀ .v) (s .large) (s .strides) (s .short)),
+          omega (arith, h, met .within),
+        )
+
+    -- once all are done
+    pub passed : (n : ℕ) → n ≡ r .to - r .from → Passed (K .pass) callOf (r .answer) (planesAt (r .from) n)
+    passed n en = record { answered = met .answers; filtered = ap (planesAt (r .from)) en ∙ met .leaves }

@@ -1,0 +1,25 @@
+-- `frame::record_pass::filter_inter_frame_records` meets its contract: the walk of `RecordWalk`, with `inter_step` as the step of a turn. Assumes nothing.
+use contract.Running.{givenOf, tables, tablesOf}
+use denote.Triple.Spec.{tripleOf}
+use denote.Triple.Table.{entered, cited}
+use Rattle.frame.proofs.RecordPasses.{interKind}
+use Rattle.frame.proofs.RecordWalk.{Planned, Stepped, filter-meets}
+use Rattle.frame.proofs.record_step.plan_records.Symbol as planner-def
+use Rattle.frame.proofs.record_step.plan_records.Symbol.{name as #planner}
+use Rattle.frame.proofs.record_step.plan_records.Met as planner-thm
+use Rattle.frame.proofs.record_step.inter_step.Symbol as step-def
+use Rattle.frame.proofs.record_step.inter_step.Symbol.{name as #step}
+use Rattle.frame.proofs.record_step.inter_step.Met as step-thm
+use Rattle.frame.proofs.record_pass.filter_inter_frame_records.Key.{name as #filter}
+use Rattle.frame.proofs.record_pass.filter_inter_frame_records as filter
+use Rattle.frame.proofs.record_pass.filter_inter_frame_records.Statement as stated
+use Rattle.frame.proofs.record_pass.filter_inter_frame_records.Code as code
+
+pub filter-inter-frame-records-spec : {M : Type 1} → stated.statement M
+unfolding code.routine tablesOf
+filter-inter-frame-records-spec 𝓤 H 𝓜 𝓖 𝓡 =
+    entered 𝓤 H (tripleOf 𝓤 H (𝓖 .A) filter.signature (filter.spec 𝓤 H (𝓖 .A) (𝓜 .mem) (𝓡 .run)))
+    (tables 𝓤 H 𝓜 𝓡 code.env .C) (tables 𝓤 H 𝓜 𝓡 code.env .Λ) #filter code.function (code.unfolded 𝓤 H 𝓜 𝓡)
+    (filter-meets interKind #step 𝓤 H (𝓖 .A) (givenOf 𝓤 H 𝓜 𝓖) (𝓜 .mem) (𝓡 .run) (tablesOf 𝓤 H 𝓜 (tables 𝓤 H 𝓜 𝓡 code.env))
+    (cited 𝓤 H (Planned 𝓤 H (𝓖 .A) (𝓜 .mem) (𝓡 .run)) 𝓜 𝓡 code.env #planner planner-def.routine code.calls-frame·record-step·plan-records (planner-thm.met 𝓤 H 𝓜 𝓖 𝓡))
+    (cited 𝓤 H (Stepped interKind 𝓤 H (𝓖 .A)) 𝓜 𝓡 code.env #step step-def.routine code.calls-frame·record-step·inter-step (step-thm.met 𝓤 H 𝓜 𝓖 𝓡)))

@@ -1,0 +1,45 @@
+-- `frame::record_step::key_step` meets its contract. Assumes nothing.
+use borrow.Author.Needs.{needs}
+use denote.Ref.{now}
+use Rattle.frame.specs.Layout.{gridOf, planesOf}
+use Rattle.frame.proofs.RecordLaws.{key-record-step}
+use Rattle.frame.proofs.record_step.key_step.Statement.{statement}
+use Rattle.frame.proofs.record_step.key_step.Tie as tie
+
+key-record-level-requires : tie.Need-key-record-level-requires
+key-record-level-requires c κs = search needs
+
+record-inner-edges-requires : tie.Need-record-inner-edges-requires
+record-inner-edges-requires c κs = search needs
+
+filter-macroblock-requires : tie.Need-filter-macroblock-requires
+filter-macroblock-requires c κs = search needs
+
+same-length : tie.Need-same-length
+same-length c = search needs
+
+same-length-2 : tie.Need-same-length-2
+same-length-2 c = search needs
+
+same-length-3 : tie.Need-same-length-3
+same-length-3 c = search needs
+
+returns : tie.Need-returns
+returns c =
+    let f = c .before .before .before .before .before .before in
+    let i = f .before .before .before .before in
+    let x = i .before .before .before .before .before .args in
+    key-record-step (x .config) (x .mb) _ _ (i .record-inner-edges .ensures) (gridOf (x .layout)) (x .m) (planesOf (now (x .y)) (now (x .u)) (now (x .v)))
+    (planesOf (f .filter-macroblock .last .0) (f .filter-macroblock .last .1 .0) (f .filter-macroblock .last .1 .1 .0)) (f .filter-macroblock .ensures) (i .before .key-record-level .ensures)
+
+pub key-step-spec : {M : Type 1} → statement M
+key-step-spec =
+    tie.close
+    (tie.spec
+    key-record-level-requires
+    record-inner-edges-requires
+    filter-macroblock-requires
+    same-length
+    same-length-2
+    same-length-3
+    returns)

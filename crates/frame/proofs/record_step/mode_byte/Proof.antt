@@ -1,0 +1,55 @@
+-- `frame::record_step::mode_byte` meets its contract. Assumes nothing.
+use borrow.Author.Needs.{needs}
+use Rattle.levels.specs.Encodings.{modeByte}
+use Rattle.frame.proofs.record_step.mode_byte.Statement.{statement}
+use Rattle.frame.proofs.record_step.mode_byte.Tie as tie
+
+enum-told : tie.Need-enum-told
+enum-told c = search needs
+
+enum-told-2 : tie.Need-enum-told-2
+enum-told-2 c = search needs
+
+enum-told-3 : tie.Need-enum-told-3
+enum-told-3 c = search needs
+
+enum-told-4 : tie.Need-enum-told-4
+enum-told-4 c = search needs
+
+enum-told-5 : tie.Need-enum-told-5
+enum-told-5 c = search needs
+
+returns : tie.Need-returns
+unfolding modeByte
+returns c = search needs
+
+returns-2 : tie.Need-returns-2
+unfolding modeByte
+returns-2 c = search needs
+
+returns-3 : tie.Need-returns-3
+unfolding modeByte
+returns-3 c = search needs
+
+returns-4 : tie.Need-returns-4
+unfolding modeByte
+returns-4 c = search needs
+
+returns-5 : tie.Need-returns-5
+unfolding modeByte
+returns-5 c = search needs
+
+pub mode-byte-spec : {M : Type 1} → statement M
+mode-byte-spec =
+    tie.close
+    (tie.spec
+    enum-told
+    enum-told-2
+    enum-told-3
+    enum-told-4
+    enum-told-5
+    returns
+    returns-2
+    returns-3
+    returns-4
+    returns-5)

@@ -1,0 +1,187 @@
+// What the passes do with one macroblock record: the bytes that it stands for, its level, whether its inner edges are filtered, and its step.
+use crate::layout::PlaneLayout;
+use crate::plan::PassPlan;
+use crate::plan::plan_pass;
+use crate::records::MacroblockModes;
+use crate::records::MaybeSegment;
+use crate::step::filter_macroblock;
+use levels::config::FrameFilterConfig;
+use levels::level::key_mb_level;
+use levels::level::mb_level;
+use levels::modes::InterMode;
+use levels::modes::IntraYMode;
+use levels::modes::MaybeInter;
+use levels::modes::MaybeRef;
+use levels::modes::RefFrame;
+ghost use mathlib.Core.Bool.{true, false};
+ghost use mathlib.Core.Path.{_≡_};
+ghost use Prim.Native.Nat.{_<_};
+ghost use Rattle.levels.specs.Encodings.{modeByte, referenceByte, interModeByte};
+ghost use Rattle.levels.specs.Levels.{keyLevel, interLevel};
+ghost use Rattle.levels.specs.declared.modes.MaybeInter.the-variants as inter;
+ghost use Rattle.levels.specs.declared.modes.MaybeRef.the-variants as reference;
+ghost use Rattle.frame.specs.Entries.{segmentByte, keyRecord, interRecord};
+ghost use Rattle.frame.specs.Layout.{gridOf, planesOf};
+ghost use Rattle.frame.specs.Macroblock.{filterMacroblock};
+ghost use Rattle.frame.specs.Pass.{insideOf, keyPlan, interPlan};
+ghost use Rattle.frame.specs.Planes.{macroblocks};
+ghost use Rattle.frame.specs.Planner.{otherThan, planOf};
+ghost use Rattle.frame.specs.Step.{Sound};
+
+// Document 01's byte of each case.
+fn mode_byte(mode: IntraYMode) -> u8
+    ensures { λ r. ⌜ r ≡ modeByte mode ⌝ }
+{
+    match mode {
+        IntraYMode::Dc => 0,
+        IntraYMode::V => 1,
+        IntraYMode::H => 2,
+        IntraYMode::Tm => 3,
+        IntraYMode::B => 4,
+    }
+}
+
+// None is written 0.
+fn segment_byte(segment: MaybeSegment) -> u8
+    ensures { λ r. ⌜ r ≡ segmentByte segment ⌝ }
+{
+    match segment {
+        MaybeSegment::Absent => 0,
+        MaybeSegment::Present(n) => n,
+    }
+}
+
+fn frame_byte(frame: RefFrame) -> u8
+    ensures { λ r. ⌜ r ≡ referenceByte (reference.Present frame) ⌝ }
+{
+    match frame {
+        RefFrame::Last => 1,
+        RefFrame::Golden => 2,
+        RefFrame::AltRef => 3,
+    }
+}
+
+fn reference_byte(reference: MaybeRef) -> u8
+    ensures { λ r. ⌜ r ≡ referenceByte reference ⌝ }
+{
+    match reference {
+        MaybeRef::Absent => 0,
+        MaybeRef::Present(frame) => frame_byte(frame),
+    }
+}
+
+fn way_byte(way: InterMode) -> u8
+    ensures { λ r. ⌜ r ≡ interModeByte (inter.Present way) ⌝ }
+{
+    match way {
+        InterMode::Zero => 1,
+        InterMode::Nearest => 2,
+        InterMode::Near => 3,
+        InterMode::New => 4,
+        InterMode::Split => 5,
+    }
+}
+
+fn inter_mode_byte(inter_mode: MaybeInter) -> u8
+    ensures { λ r. ⌜ r ≡ interModeByte «inter_mode» ⌝ }
+{
+    match inter_mode {
+        MaybeInter::Absent => 0,
+        MaybeInter::Present(way) => way_byte(way),
+    }
+}
+
+// The key level ignores reference and inter mode.
+fn key_record_level(config: FrameFilterConfig, mb: MacroblockModes) -> u8
+    ensures { λ r. ⌜ r ≡ keyLevel config (keyRecord mb .segment) (keyRecord mb .mode) ⌝ }
+{
+    let y_mode = mb.y_mode;
+    let segment_id = mb.segment_id;
+    let mode = mode_byte(y_mode);
+    let segment = segment_byte(segment_id);
+    key_mb_level(config, segment, mode)
+}
+
+fn inter_record_level(config: FrameFilterConfig, mb: MacroblockModes) -> u8
+    ensures { λ r. ⌜ r ≡ interLevel config (interRecord mb .segment) (interRecord mb .reference) (interRecord mb .interMode) (interRecord mb .mode) ⌝ }
+{
+    let y_mode = mb.y_mode;
+    let segment_id = mb.segment_id;
+    let ref_frame = mb.ref_frame;
+    let inter_mode = mb.inter_mode;
+    let mode = mode_byte(y_mode);
+    let segment = segment_byte(segment_id);
+    let reference = reference_byte(ref_frame);
+    let way = inter_mode_byte(inter_mode);
+    mb_level(config, segment, reference, way, mode)
+}
+
+// The mode is B, or there are coefficients.
+fn record_inner_edges(mb: MacroblockModes) -> bool
+    ensures { λ r. ⌜ r ≡ insideOf (interRecord mb) ⌝ }
+{
+    let y_mode = mb.y_mode;
+    let mode = mode_byte(y_mode);
+    (3 < mode) | mb.has_coeffs
+}
+
+// The key pass's step of macroblock m, by its record.
+pub fn key_step(
+    y: &mut [u8],
+    u: &mut [u8],
+    v: &mut [u8],
+    layout: PlaneLayout,
+    config: FrameFilterConfig,
+    m: usize,
+    mb: MacroblockModes,
+)
+    requires { ⌜ Sound layout (now y) (now u) (now v) × (m < macroblocks (gridOf layout)) ⌝ }
+    ensures { λ _. ⌜ planesOf (now (y .exit)) (now (u .exit)) (now (v .exit)) ≡ filterMacroblock (gridOf layout) (λ _. keyPlan config (keyRecord mb)) m (planesOf (now (y .entry)) (now (u .entry)) (now (v .entry))) ⌝ }
+{
+    let level = key_record_level(config, mb);
+    let inside = record_inner_edges(mb);
+    filter_macroblock(y, u, v, layout, config, m, level, inside);
+}
+
+// The inter pass's step.
+pub fn inter_step(
+    y: &mut [u8],
+    u: &mut [u8],
+    v: &mut [u8],
+    layout: PlaneLayout,
+    config: FrameFilterConfig,
+    m: usize,
+    mb: MacroblockModes,
+)
+    requires { ⌜ Sound layout (now y) (now u) (now v) × (m < macroblocks (gridOf layout)) ⌝ }
+    ensures { λ _. ⌜ planesOf (now (y .exit)) (now (u .exit)) (now (v .exit)) ≡ filterMacroblock (gridOf layout) (λ _. interPlan config (interRecord mb)) m (planesOf (now (y .entry)) (now (u .entry)) (now (v .entry))) ⌝ }
+{
+    let level = inter_record_level(config, mb);
+    let inside = record_inner_edges(mb);
+    filter_macroblock(y, u, v, layout, config, m, level, inside);
+}
+
+// What a pass over so many records is to do. No record stands for a byte that 6 refuses.
+pub fn plan_records(
+    y_len: usize,
+    u_len: usize,
+    v_len: usize,
+    layout: PlaneLayout,
+    entries: usize,
+    start: usize,
+    allowance: usize,
+) -> PassPlan
+    ensures { λ r. ⌜ r ≡ planOf (record { grid = gridOf layout; yLength = «y_len»; uLength = «u_len»; vLength = «v_len»; otherLength = otherThan true entries (macroblocks (gridOf layout)); badEntry = false; start = start; allowance = allowance }) ⌝ }
+{
+    plan_pass(
+        y_len,
+        u_len,
+        v_len,
+        layout,
+        entries,
+        true,
+        false,
+        start,
+        allowance,
+    )
+}

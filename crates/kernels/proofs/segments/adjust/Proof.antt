@@ -1,0 +1,91 @@
+-- `kernels::segments::adjust` meets its contract.
+-- Assumes nothing.
+use borrow.Author.Needs.{needs}
+use mathlib.Core.Path.{ap, _∙_}
+use Prim.Native.Nat.{_+_}
+use lib.ListN.{set}
+use lib.IntN.{ℤ}
+use mir.Syntax.{w64}
+use mir.Val.{ofZ}
+use denote.Ref.{now}
+use Rattle.kernels.specs.Numbers.{u2s}
+use Rattle.kernels.specs.Kernels.{filterValue, adjustment, adjustedP0, adjustedQ0}
+use Rattle.kernels.specs.Windows.{atMost123, adjustedAt}
+use Rattle.kernels.proofs.Ranges as R
+use Rattle.kernels.proofs.Cuts.{raised, lowered, gain-is, loss-is, most-in}
+use Rattle.kernels.proofs.segments.adjust.Statement.{statement}
+use Rattle.kernels.proofs.segments.adjust.Tie as tie
+
+module _ (c : tie.After-at-most-123) where
+  abbrev s : tie.Start
+  s = c .before .before .before
+
+  abbrev a : ℤ
+  a = filterValue (s .args .outer) (u2s (s .args .p1)) (u2s (s .args .p0)) (u2s (s .args .q0)) (u2s (s .args .q1))
+
+  value : R.Is w64 (ofZ w64 (c .before .filter-value .result)) a 128
+  value = R.got (c .before .filter-value .ok) (c .before .filter-value .ensures) (R.filter-in _ _ _ _ _)
+
+  most : R.Is w64 (ofZ w64 (c .at-most-123 .result)) (atMost123 a) 128
+  most = R.got (c .at-most-123 .ok) (c .at-most-123 .ensures ∙ ap atMost123 (value .val)) (most-in a (value .inr))
+
+filter-value-requires : tie.Need-filter-value-requires
+filter-value-requires c κs = search needs
+
+at-most-123-requires : tie.Need-at-most-123-requires
+at-most-123-requires c κs = search needs
+
+add-loss : tie.Need-add-loss
+add-loss c = R.add? (most c) (R.lit w64 4 tt) tt
+
+cast-cut2 : tie.Need-cast-cut2
+cast-cut2 c = search needs
+
+add-cut2 : tie.Need-add-cut2
+add-cut2 c = R.add? (most (c .before)) (R.lit w64 3 tt) tt
+
+add-cut2-2 : tie.Need-add-cut2-2
+add-cut2-2 c = R.add? (R.sample (s (c .before) .fits .p0 .fits)) (R.shr 8 (R.add (most (c .before)) (R.lit w64 3 tt) tt) tt) tt
+
+cast-cut2-2 : tie.Need-cast-cut2-2
+cast-cut2-2 c = search needs
+
+sub-cut2 : tie.Need-sub-cut2
+sub-cut2 c = R.sub? (R.sample (s (c .before) .fits .q0 .fits)) (R.shr 8 (R.add (most (c .before)) (R.lit w64 4 tt) tt) tt) tt
+
+cut2-requires : tie.Need-cut2-requires
+cut2-requires c κs = search needs
+
+same-length : tie.Need-same-length
+same-length c = search needs
+
+returns : tie.Need-returns
+unfolding adjustment adjustedP0 adjustedQ0 adjustedAt
+returns c =
+    let p = c .before .before in
+    let m = p .before .before in
+    let x = s m in
+    let h = value m .inr in
+    let at = x .args .at in (
+      R.shr 8 (R.add (most m) (R.lit w64 4 tt) tt) tt .val ∙ loss-is (a m) h,
+      p .cut2 .ensures
+          ∙ (λ i. set (set (now (x .args .seg))
+          at (raised (x .args .p0) (gain-is (a m) h) (R.add (R.sample (x .fits .p0 .fits)) (R.shr 8 (R.add (most m) (R.lit w64 3 tt) tt) tt) tt) i))
+          (at + 1) (lowered (x .args .q0) (loss-is (a m) h) (R.sub (R.sample (x .fits .q0 .fits)) (R.shr 8 (R.add (most m) (R.lit w64 4 tt) tt) tt) tt) i)),
+    )
+
+pub adjust-spec : {M : Type 1} → statement M
+adjust-spec =
+    tie.close
+    (tie.spec
+    filter-value-requires
+    at-most-123-requires
+    add-loss
+    cast-cut2
+    add-cut2
+    add-cut2-2
+    cast-cut2-2
+    sub-cut2
+    cut2-requires
+    same-length
+    returns)

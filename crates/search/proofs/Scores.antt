@@ -1,0 +1,82 @@
+-- The score of a candidate that was made in the scratch planes.
+use mathlib.Core.Path.{_≡_, refl, sym, ap, _∙_}
+use mathlib.Core.List.{List, [], _∷_}
+use Prim.Native.Nat.{ℕ}
+use native.Mathlib.Omega.{arith}
+use lib.ListN.{length, getD}
+use mir.Syntax.{w8}
+use mir.Val.{Fits}
+use denote.Enum.Declared.{tagOf}
+use types.Run.{OneOf}
+use Rattle.kernels.specs.Answers.{gives}
+use Rattle.frame.specs.Planes.{luma, chromaU, chromaV, Planes, Grid, plane}
+use Rattle.frame.specs.Layout.{planesOf}
+use Rattle.frame.specs.Pass.{Pass}
+use Rattle.search.specs.Sums.{errorSum, pastGrid, sumAnswer}
+use Rattle.search.specs.Bytes.{Bytes, BytePlanes}
+use Rattle.search.specs.Copies.{copyGrid}
+use Rattle.search.specs.Candidates.{Candidate}
+use Rattle.search.specs.Search.{SearchCall, planesOfCandidate, score}
+use Rattle.search.specs.SearchCode.{Ready, Alike}
+use Rattle.search.specs.Answers.{sumOutcome}
+use Rattle.search.specs.declared.answers.SumAnswer.{SumAnswer}
+use Rattle.search.specs.declared.answers.SumAnswer.the-variants.{Sum, TooLarge, BadStrides, ShortPlane, SourceTooLarge, BadSource, SumTooLarge}
+use Rattle.search.proofs.answers.SumAnswer.{the-type}
+use Rattle.search.proofs.SumLaws.{not-sum}
+use Rattle.search.proofs.SumRefusals.{ends-fit}
+use Rattle.search.proofs.SumBounds.{sum-fits, sum-copy}
+use Rattle.search.proofs.CopyLaws.{copied-length, copy-copy}
+use Rattle.search.proofs.Passes.{past-lengths}
+
+pub byte-planes : (y u v : List ℕ) → ((i : ℕ) → Fits w8 (getD y i 0)) → ((i : ℕ) → Fits w8 (getD u i 0)) → ((i : ℕ) → Fits w8 (getD v i 0)) → BytePlanes (planesOf y u v)
+unfolding BytePlanes Bytes
+byte-planes y u v hy hu hv luma = λ i. hy i .fits
+byte-planes y u v hy hu hv chromaU = λ i. hu i .fits
+byte-planes y u v hy hu hv chromaV = λ i. hv i .fits
+
+-- an answer that gives a number is a sum
+pub gives-sum : (r : SumAnswer) (n : ℕ) → sumOutcome r ≡ gives n → ((m : ℕ) → r ≡ Sum m → ⊥) → ⊥
+unfolding sumOutcome
+gives-sum (Sum m) n e no-sum = no-sum m refl
+gives-sum TooLarge n e no-sum = let z : _≡_ {A = ℕ} 0 1 = cc in omega arith
+gives-sum BadStrides n e no-sum = let z : _≡_ {A = ℕ} 0 1 = cc in omega arith
+gives-sum ShortPlane n e no-sum = let z : _≡_ {A = ℕ} 0 1 = cc in omega arith
+gives-sum SourceTooLarge n e no-sum = let z : _≡_ {A = ℕ} 0 1 = cc in omega arith
+gives-sum BadSource n e no-sum = let z : _≡_ {A = ℕ} 0 1 = cc in omega arith
+gives-sum SumTooLarge n e no-sum = let z : _≡_ {A = ℕ} 0 1 = cc in omega arith
+
+pub sum-given : (m n : ℕ) → sumOutcome (Sum m) ≡ gives n → m ≡ n
+unfolding sumOutcome
+sum-given m n e = cc
+
+-- a copy over scratch planes is as long as they are
+pub copy-past : (g : Grid) (p t : Planes) → pastGrid g (copyGrid g p t) 0 ≡ pastGrid g t 0
+copy-past g p t = past-lengths g (copyGrid g p t) t 0 (copied-length g p t)
+
+pub alike-copy : (g : Grid) (x t after : Planes) → pastGrid g t 0 ≡ 0 → after ≡ copyGrid g x t → Alike g t after
+alike-copy g x t after e h = record {
+  over = λ p. ap (copyGrid g p) h ∙ copy-copy g p x t e;
+  same = ap (λ (z : Planes). pastGrid g z 0) h ∙ copy-past g x t;
+  lengths = λ q. ap (λ (z : Planes). length (plane q z)) h ∙ copied-length g x t q;
+}
+
+pub alike-self : (g : Grid) (t : Planes) → Alike g t t
+alike-self g t = record { over = λ p. refl; same = refl; lengths = λ q. refl }
+
+pub alike-then : (g : Grid) (r s t : Planes) → Alike g r s → Alike g s t → Alike g r t
+alike-then g r s t a b = record { over = λ p. b .over p ∙ a .over p; same = b .same ∙ a .same; lengths = λ q. b .lengths q ∙ a .lengths q }
+
+module _ (W : Pass) (a : SearchCall W) (ready : Ready W a) (c : Candidate) (after : Planes) (e : after ≡ copyGrid (a .grid) (planesOfCandidate W a c) (a .scratch))
+    (bytes : BytePlanes after) (source : BytePlanes (a .source .samples)) (r : SumAnswer) (h : sumOutcome r ≡ sumAnswer (a .grid) after (a .source)) where
+  given : sumOutcome r ≡ gives (score W a c)
+  unfolding score
+  given =
+      let past : pastGrid (a .grid) after 0 ≡ 0 = ap (λ (z : Planes). pastGrid (a .grid) z 0) e ∙ copy-past (a .grid) (planesOfCandidate W a c) (a .scratch) ∙ ready .scratch in
+      h ∙ sym (ends-fit (a .grid) after (a .source) past (ready .source) (sum-fits (a .grid) after (a .source) bytes source past (ready .source)))
+      ∙ ap gives (ap (λ (z : Planes). errorSum (a .grid) z (a .source)) e ∙ sum-copy (a .grid) (planesOfCandidate W a c) (a .scratch) (a .source) (ready .scratch) (ready .source))
+
+  pub scored-sum : (m : ℕ) → r ≡ Sum m → m ≡ score W a c
+  scored-sum m q = sum-given m (score W a c) (ap sumOutcome (sym q) ∙ given)
+
+  pub scored-always : OneOf (1 ∷ 2 ∷ 3 ∷ 4 ∷ 5 ∷ 6 ∷ []) (tagOf the-type r) → ⊥
+  scored-always k = gives-sum r (score W a c) given (not-sum r k)

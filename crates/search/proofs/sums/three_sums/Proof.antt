@@ -1,0 +1,55 @@
+-- `search::sums::three_sums` meets its contract. Assumes nothing.
+use Rattle.search.proofs.SumLaws.{not-sum, over-one, over-two, all-three}
+use Rattle.search.specs.Sums.{errorSum, planeSum}
+use mathlib.Core.Path.{sym, _∙_}
+use borrow.Author.Needs.{needs}
+use Rattle.search.proofs.sums.three_sums.Statement.{statement}
+use Rattle.search.proofs.sums.three_sums.Tie as tie
+
+add-cw : tie.Need-add-cw
+add-cw c = search needs
+
+add-ch : tie.Need-add-ch
+add-ch c = search needs
+
+plane-sum-requires : tie.Need-plane-sum-requires
+plane-sum-requires c κs = search needs
+
+enum-known-a : tie.Need-enum-known-a
+enum-known-a c = search needs
+
+returns : tie.Need-returns
+unfolding errorSum planeSum
+returns c = over-one _ _ _ _ (c .before .plane-sum .ensures) (not-sum _ (c .match .keys2))
+
+plane-sum-requires-2 : tie.Need-plane-sum-requires-2
+plane-sum-requires-2 c κs = search needs
+
+enum-known-b : tie.Need-enum-known-b
+enum-known-b c = search needs
+
+returns-2 : tie.Need-returns-2
+unfolding errorSum planeSum
+returns-2 c = over-two _ _ _ _ _ (sym (c .before .before .before .a .given .1) ∙ c .before .before .before .before .before .plane-sum .ensures) (c .before .plane-sum2 .ensures) (not-sum _ (c .match2 .keys2))
+
+plane-sum-requires-3 : tie.Need-plane-sum-requires-3
+plane-sum-requires-3 c κs = search needs
+
+returns-3 : tie.Need-returns-3
+unfolding errorSum planeSum
+returns-3 c = all-three _ _ _ _ _ _ (sym (c .before .before .before .before .before .before .a .given .1) ∙ c .before .before .before .before .before .before .before .before .plane-sum .ensures) (sym (c .before .before .b .given .1) ∙ c .before .before .before .before .plane-sum2 .ensures) (c .plane-sum3 .ensures)
+
+pub three-sums-spec : {M : Type 1} → statement M
+three-sums-spec =
+    tie.close
+    (tie.spec
+    add-cw
+    add-ch
+    plane-sum-requires
+    enum-known-a
+    returns
+    plane-sum-requires-2
+    enum-known-b
+    returns-2
+    plane-sum-requires-3
+    returns-3)

@@ -1,0 +1,454 @@
+// The search for the level and the sharpness with the smallest error sum (document 01, Search; the Rust's select_filter_params and select_filter_level).
+use crate::answers::LevelAnswer;
+use crate::answers::ParamsAnswer;
+use crate::answers::SumAnswer;
+use crate::candidates::Setup;
+use crate::candidates::make_candidate;
+use crate::candidates::run_pass;
+use crate::candidates::try_candidate;
+use crate::judge::Judged;
+use crate::judge::judge;
+use crate::judge::pass_number;
+use crate::judge::sum_number;
+use crate::sums::reconstruction_ssd;
+use crate::turns::Found;
+use crate::turns::base_sharpness;
+use crate::turns::mark;
+use crate::turns::next_turn;
+use frame::layout::PlaneLayout;
+use levels::config::FrameFilterConfig;
+ghost use mathlib.Core.Path.{_≡_};
+ghost use Rattle.frame.specs.Layout.{gridOf, planesOf};
+ghost use Rattle.frame.specs.Pass.{keyPass, interPass};
+ghost use Rattle.frame.specs.PassCalls.{keyLists, interLists};
+ghost use Rattle.search.specs.Source.{sourceOf};
+ghost use Rattle.search.specs.Sums.{errorSum};
+ghost use Rattle.search.specs.Search.{keySearch, interSearch, Searched, LevelSearched, levelOnly};
+ghost use Rattle.search.specs.Answers.{paramsOutcome, levelOutcome};
+ghost use Rattle.search.specs.SearchCode.{passOf, callOf, Ready, Turned, Ended};
+
+// The turns, one after the other.
+fn search_turns<'s>(
+    y: &[u8],
+    u: &[u8],
+    v: &[u8],
+    ty: &mut [u8],
+    tu: &mut [u8],
+    tv: &mut [u8],
+    modes: &[u8],
+    segments: &[u8],
+    flags: &[u8],
+    references: &[u8],
+    inter_modes: &[u8],
+    setup: Setup,
+    base: u8,
+    start: Found,
+    src_y: &'s [u8],
+    src_u: &'s [u8],
+    src_v: &'s [u8],
+) -> Found
+    requires { ⌜ Ready (passOf (setup .«inter»)) (callOf setup (planesOf (now y) (now u) (now v)) (planesOf (now ty) (now tu) (now tv)) (now modes) (now segments) (now flags) (now references) (now «inter_modes») (now «src_y») (now «src_u») (now «src_v»)) ⌝ }
+    requires { ⌜ start .«count» ≡ 0 ⌝ }
+    ensures { λ r. ⌜ Turned (passOf (setup .«inter»)) (callOf setup (planesOf (now (y .entry)) (now (u .entry)) (now (v .entry))) (planesOf (now (ty .entry)) (now (tu .entry)) (now (tv .entry))) (now (modes .entry)) (now (segments .entry)) (now (flags .entry)) (now (references .entry)) (now («inter_modes» .entry)) (now («src_y» .entry)) (now («src_u» .entry)) (now («src_v» .entry))) base start r (planesOf (now (ty .exit)) (now (tu .exit)) (now (tv .exit))) ⌝ }
+{
+    let mut found = start;
+    let mut i = 0;
+    while i < 88 {
+        let turn = next_turn(base, i, found);
+        let next = try_candidate(
+            y,
+            u,
+            v,
+            ty,
+            tu,
+            tv,
+            modes,
+            segments,
+            flags,
+            references,
+            inter_modes,
+            setup,
+            found,
+            turn,
+            src_y,
+            src_u,
+            src_v,
+        );
+        found = mark(i, next);
+        i += 1;
+    }
+    found
+}
+
+// The best candidate, left in the grid of the scratch planes. `sum` is the unfiltered sum.
+fn search_all<'s>(
+    y: &[u8],
+    u: &[u8],
+    v: &[u8],
+    ty: &mut [u8],
+    tu: &mut [u8],
+    tv: &mut [u8],
+    modes: &[u8],
+    segments: &[u8],
+    flags: &[u8],
+    references: &[u8],
+    inter_modes: &[u8],
+    setup: Setup,
+    sum: u64,
+    src_y: &'s [u8],
+    src_u: &'s [u8],
+    src_v: &'s [u8],
+) -> Found
+    requires { ⌜ Ready (passOf (setup .«inter»)) (callOf setup (planesOf (now y) (now u) (now v)) (planesOf (now ty) (now tu) (now tv)) (now modes) (now segments) (now flags) (now references) (now «inter_modes») (now «src_y») (now «src_u») (now «src_v»)) ⌝ }
+    requires { ⌜ sum ≡ errorSum (gridOf (setup .«layout»)) (planesOf (now y) (now u) (now v)) (sourceOf (setup .«width») (setup .«height») (now «src_y») (now «src_u») (now «src_v») (setup .«y_stride») (setup .«uv_stride»)) ⌝ }
+    ensures { λ r. ⌜ Ended (passOf (setup .«inter»)) (callOf setup (planesOf (now (y .entry)) (now (u .entry)) (now (v .entry))) (planesOf (now (ty .entry)) (now (tu .entry)) (now (tv .entry))) (now (modes .entry)) (now (segments .entry)) (now (flags .entry)) (now (references .entry)) (now («inter_modes» .entry)) (now («src_y» .entry)) (now («src_u» .entry)) (now («src_v» .entry))) r (planesOf (now (ty .exit)) (now (tu .exit)) (now (tv .exit))) ⌝ }
+{
+    let config = setup.config;
+    let base = base_sharpness(config.sharpness_level);
+    let start = Found {
+        level: 0,
+        sharpness: base,
+        sum: sum,
+        count: 0,
+        winner: 0,
+    };
+    let found = search_turns(
+        y,
+        u,
+        v,
+        ty,
+        tu,
+        tv,
+        modes,
+        segments,
+        flags,
+        references,
+        inter_modes,
+        setup,
+        base,
+        start,
+        src_y,
+        src_u,
+        src_v,
+    );
+    make_candidate(
+        y,
+        u,
+        v,
+        ty,
+        tu,
+        tv,
+        modes,
+        segments,
+        flags,
+        references,
+        inter_modes,
+        setup,
+        found.level,
+        found.sharpness,
+    );
+    found
+}
+
+// Either search. The pass with allowance 0 changes nothing, and judges the scratch planes and the lists.
+fn select_params<'s>(
+    y: &[u8],
+    u: &[u8],
+    v: &[u8],
+    ty: &mut [u8],
+    tu: &mut [u8],
+    tv: &mut [u8],
+    modes: &[u8],
+    segments: &[u8],
+    flags: &[u8],
+    references: &[u8],
+    inter_modes: &[u8],
+    setup: Setup,
+    src_y: &'s [u8],
+    src_u: &'s [u8],
+    src_v: &'s [u8],
+) -> ParamsAnswer
+    ensures { λ r. ⌜ Searched (passOf (setup .«inter»)) (callOf setup (planesOf (now (y .entry)) (now (u .entry)) (now (v .entry))) (planesOf (now (ty .entry)) (now (tu .entry)) (now (tv .entry))) (now (modes .entry)) (now (segments .entry)) (now (flags .entry)) (now (references .entry)) (now («inter_modes» .entry)) (now («src_y» .entry)) (now («src_u» .entry)) (now («src_v» .entry))) (paramsOutcome r) (planesOf (now (ty .exit)) (now (tu .exit)) (now (tv .exit))) ⌝ }
+{
+    let layout = setup.layout;
+    let config = setup.config;
+    let pass = run_pass(
+        ty,
+        tu,
+        tv,
+        modes,
+        segments,
+        flags,
+        references,
+        inter_modes,
+        layout,
+        config,
+        setup.inter,
+        0,
+    );
+    let unfiltered = reconstruction_ssd(
+        y,
+        u,
+        v,
+        layout,
+        setup.width,
+        setup.height,
+        src_y,
+        src_u,
+        src_v,
+        setup.y_stride,
+        setup.uv_stride,
+    );
+    if let Judged::Refused(answer) = judge(pass_number(pass), sum_number(unfiltered)) {
+        return answer;
+    }
+    let SumAnswer::Sum(sum) = unfiltered else {
+        return ParamsAnswer::SumTooLarge;
+    };
+    let found = search_all(
+        y,
+        u,
+        v,
+        ty,
+        tu,
+        tv,
+        modes,
+        segments,
+        flags,
+        references,
+        inter_modes,
+        setup,
+        sum,
+        src_y,
+        src_u,
+        src_v,
+    );
+    ParamsAnswer::Chosen {
+        level: found.level,
+        sharpness: found.sharpness,
+        count: found.count,
+    }
+}
+
+// The same answer without the sharpness.
+fn level_of(answer: ParamsAnswer) -> LevelAnswer
+    ensures { λ r. ⌜ levelOutcome r ≡ levelOnly (paramsOutcome answer) ⌝ }
+{
+    match answer {
+        ParamsAnswer::Chosen {
+            level,
+            sharpness: _,
+            count,
+        } => LevelAnswer::Chosen {
+            level: level,
+            count: count,
+        },
+        ParamsAnswer::TooLarge => LevelAnswer::TooLarge,
+        ParamsAnswer::BadStrides => LevelAnswer::BadStrides,
+        ParamsAnswer::ShortPlane => LevelAnswer::ShortPlane,
+        ParamsAnswer::BadEntry => LevelAnswer::BadEntry,
+        ParamsAnswer::SourceTooLarge => LevelAnswer::SourceTooLarge,
+        ParamsAnswer::BadSource => LevelAnswer::BadSource,
+        ParamsAnswer::SumTooLarge => LevelAnswer::SumTooLarge,
+    }
+}
+
+// The search with the key pass, which reads modes, segments and flags only.
+pub fn select_filter_params<'s>(
+    y: &[u8],
+    u: &[u8],
+    v: &[u8],
+    scratch_y: &mut [u8],
+    scratch_u: &mut [u8],
+    scratch_v: &mut [u8],
+    layout: PlaneLayout,
+    modes: &[u8],
+    segments: &[u8],
+    flags: &[u8],
+    config: FrameFilterConfig,
+    width: usize,
+    height: usize,
+    src_y: &'s [u8],
+    src_u: &'s [u8],
+    src_v: &'s [u8],
+    src_y_stride: usize,
+    src_uv_stride: usize,
+) -> ParamsAnswer
+    ensures { λ r. ⌜ Searched keyPass (keySearch layout config (keyLists (now (modes .entry)) (now (segments .entry)) (now (flags .entry))) (planesOf (now (y .entry)) (now (u .entry)) (now (v .entry))) (planesOf (now («scratch_y» .entry)) (now («scratch_u» .entry)) (now («scratch_v» .entry))) (sourceOf width height (now («src_y» .entry)) (now («src_u» .entry)) (now («src_v» .entry)) «src_y_stride» «src_uv_stride»)) (paramsOutcome r) (planesOf (now («scratch_y» .exit)) (now («scratch_u» .exit)) (now («scratch_v» .exit))) ⌝ }
+{
+    let setup = Setup {
+        layout: layout,
+        config: config,
+        inter: false,
+        width: width,
+        height: height,
+        y_stride: src_y_stride,
+        uv_stride: src_uv_stride,
+    };
+    select_params(
+        y,
+        u,
+        v,
+        scratch_y,
+        scratch_u,
+        scratch_v,
+        modes,
+        segments,
+        flags,
+        flags,
+        flags,
+        setup,
+        src_y,
+        src_u,
+        src_v,
+    )
+}
+
+// The search with the inter pass.
+pub fn select_filter_params_inter<'s>(
+    y: &[u8],
+    u: &[u8],
+    v: &[u8],
+    scratch_y: &mut [u8],
+    scratch_u: &mut [u8],
+    scratch_v: &mut [u8],
+    layout: PlaneLayout,
+    modes: &[u8],
+    segments: &[u8],
+    flags: &[u8],
+    references: &[u8],
+    inter_modes: &[u8],
+    config: FrameFilterConfig,
+    width: usize,
+    height: usize,
+    src_y: &'s [u8],
+    src_u: &'s [u8],
+    src_v: &'s [u8],
+    src_y_stride: usize,
+    src_uv_stride: usize,
+) -> ParamsAnswer
+    ensures { λ r. ⌜ Searched interPass (interSearch layout config (interLists (now (modes .entry)) (now (segments .entry)) (now (flags .entry)) (now (references .entry)) (now («inter_modes» .entry))) (planesOf (now (y .entry)) (now (u .entry)) (now (v .entry))) (planesOf (now («scratch_y» .entry)) (now («scratch_u» .entry)) (now («scratch_v» .entry))) (sourceOf width height (now («src_y» .entry)) (now («src_u» .entry)) (now («src_v» .entry)) «src_y_stride» «src_uv_stride»)) (paramsOutcome r) (planesOf (now («scratch_y» .exit)) (now («scratch_u» .exit)) (now («scratch_v» .exit))) ⌝ }
+{
+    let setup = Setup {
+        layout: layout,
+        config: config,
+        inter: true,
+        width: width,
+        height: height,
+        y_stride: src_y_stride,
+        uv_stride: src_uv_stride,
+    };
+    select_params(
+        y,
+        u,
+        v,
+        scratch_y,
+        scratch_u,
+        scratch_v,
+        modes,
+        segments,
+        flags,
+        references,
+        inter_modes,
+        setup,
+        src_y,
+        src_u,
+        src_v,
+    )
+}
+
+// The level of the pair that the key search chooses.
+pub fn select_filter_level<'s>(
+    y: &[u8],
+    u: &[u8],
+    v: &[u8],
+    scratch_y: &mut [u8],
+    scratch_u: &mut [u8],
+    scratch_v: &mut [u8],
+    layout: PlaneLayout,
+    modes: &[u8],
+    segments: &[u8],
+    flags: &[u8],
+    config: FrameFilterConfig,
+    width: usize,
+    height: usize,
+    src_y: &'s [u8],
+    src_u: &'s [u8],
+    src_v: &'s [u8],
+    src_y_stride: usize,
+    src_uv_stride: usize,
+) -> LevelAnswer
+    ensures { λ r. ⌜ LevelSearched keyPass (keySearch layout config (keyLists (now (modes .entry)) (now (segments .entry)) (now (flags .entry))) (planesOf (now (y .entry)) (now (u .entry)) (now (v .entry))) (planesOf (now («scratch_y» .entry)) (now («scratch_u» .entry)) (now («scratch_v» .entry))) (sourceOf width height (now («src_y» .entry)) (now («src_u» .entry)) (now («src_v» .entry)) «src_y_stride» «src_uv_stride»)) (levelOutcome r) (planesOf (now («scratch_y» .exit)) (now («scratch_u» .exit)) (now («scratch_v» .exit))) ⌝ }
+{
+    let answer = select_filter_params(
+        y,
+        u,
+        v,
+        scratch_y,
+        scratch_u,
+        scratch_v,
+        layout,
+        modes,
+        segments,
+        flags,
+        config,
+        width,
+        height,
+        src_y,
+        src_u,
+        src_v,
+        src_y_stride,
+        src_uv_stride,
+    );
+    level_of(answer)
+}
+
+// The level of the pair that the inter search chooses.
+pub fn select_filter_level_inter<'s>(
+    y: &[u8],
+    u: &[u8],
+    v: &[u8],
+    scratch_y: &mut [u8],
+    scratch_u: &mut [u8],
+    scratch_v: &mut [u8],
+    layout: PlaneLayout,
+    modes: &[u8],
+    segments: &[u8],
+    flags: &[u8],
+    references: &[u8],
+    inter_modes: &[u8],
+    config: FrameFilterConfig,
+    width: usize,
+    height: usize,
+    src_y: &'s [u8],
+    src_u: &'s [u8],
+    src_v: &'s [u8],
+    src_y_stride: usize,
+    src_uv_stride: usize,
+) -> LevelAnswer
+    ensures { λ r. ⌜ LevelSearched interPass (interSearch layout config (interLists (now (modes .entry)) (now (segments .entry)) (now (flags .entry)) (now (references .entry)) (now («inter_modes» .entry))) (planesOf (now (y .entry)) (now (u .entry)) (now (v .entry))) (planesOf (now («scratch_y» .entry)) (now («scratch_u» .entry)) (now («scratch_v» .entry))) (sourceOf width height (now («src_y» .entry)) (now («src_u» .entry)) (now («src_v» .entry)) «src_y_stride» «src_uv_stride»)) (levelOutcome r) (planesOf (now («scratch_y» .exit)) (now («scratch_u» .exit)) (now («scratch_v» .exit))) ⌝ }
+{
+    let answer = select_filter_params_inter(
+        y,
+        u,
+        v,
+        scratch_y,
+        scratch_u,
+        scratch_v,
+        layout,
+        modes,
+        segments,
+        flags,
+        references,
+        inter_modes,
+        config,
+        width,
+        height,
+        src_y,
+        src_u,
+        src_v,
+        src_y_stride,
+        src_uv_stride,
+    );
+    level_of(answer)
+}

@@ -3,4 +3,5 @@ pub mod level;
 pub mod numbers;
 pub mod passes;
 pub mod segments;
+pub mod selects;
 mod settings;

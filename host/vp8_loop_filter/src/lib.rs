@@ -1,0 +1,43 @@
+//! The VP8 loop filter (RFC 6386, section 15) of the proved Rattle library, with the names of the Rust that it replaces.
+//!
+//! What each call answers and writes is what the library's contracts say. No call panics, whatever its arguments: a
+//! call that cannot be done answers a [`Refusal`] with its number and what was expected, and changes nothing.
+//!
+//! - Planes are lent: a call takes anything that [`PlanesMut`] or [`Planes`] is `From`, such as `&mut` [`KeyframePlanes`]
+//!   or a caller's own record.
+//! - [`filter_frame`] and [`filter_inter_frame`] filter a frame. [`filter_frame_from`] and [`filter_inter_frame_from`]
+//!   halt after some macroblocks and go on later; [`final_rows`] says which rows are final by then.
+//! - [`select_filter_params`] and [`select_filter_level`] choose a level for an encoder.
+//! - [`LoopFilterParams::derive`], [`calculate_mb_filter_level`] and the kernels such as [`mb_filter`] are the parts.
+//!
+//! `docs/MIGRATING.md` has the lines that change in a caller of the Rust.
+
+#![deny(missing_docs, unsafe_code)]
+
+mod config;
+#[allow(unsafe_code)]
+mod entries;
+mod kernels;
+mod levels;
+mod macroblock;
+mod passes;
+mod planes;
+mod refusal;
+mod search;
+
+pub use config::{FrameFilterConfig, MAX_MB_SEGMENTS};
+pub use kernels::{LoopFilterParams, clamp_s8, common_adjust, mb_filter, s2u, simple_segment, subblock_filter, u2s};
+pub use levels::{calculate_mb_filter_level, calculate_mb_filter_level_inter, mb_has_coeffs};
+pub use macroblock::{InterFilterInfo, InterMode, IntraYMode, MacroblockModes, MbCoeffs, RefFrame};
+pub use passes::{
+    Done, FinalRows, filter_frame, filter_frame_flags, filter_frame_from, filter_inter_frame, filter_inter_frame_flags,
+    filter_inter_frame_from, final_rows,
+};
+pub use planes::{KeyframePlanes, Planes, PlanesMut, Scratch, SourcePlanes};
+pub use refusal::Refusal;
+pub use search::{Choice, reconstruction_ssd, select_filter_level, select_filter_params, select_filter_params_in};
+
+/// The code of the page is compiled with the documentation tests.
+#[cfg(doctest)]
+#[doc = include_str!("../../../docs/MIGRATING.md")]
+struct Migrating;

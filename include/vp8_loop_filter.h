@@ -203,6 +203,87 @@ uint8_t vp8lf_filter_inter_frame(uint8_t *y, size_t y_len, uint8_t *u, size_t u_
 uint8_t vp8lf_final_rows(size_t mb_cols, size_t mb_rows, size_t y_stride, size_t uv_stride, size_t start,
                          size_t *luma, size_t *chroma);
 
+/* Error sums and the level search. */
+
+/*
+ * Writes to *sum the squared differences between the reconstruction and a source of width x height luma samples, chroma
+ * halves rounded up. Width or height 0 sums to 0. Refused, in this order: VP8LF_GRID_TOO_LARGE, VP8LF_BAD_STRIDE,
+ * VP8LF_SHORT_PLANE (these three not where columns or rows are 0), VP8LF_SOURCE_TOO_LARGE, VP8LF_BAD_SOURCE,
+ * VP8LF_SUM_TOO_LARGE.
+ */
+uint8_t vp8lf_reconstruction_ssd(const uint8_t *y, size_t y_len, const uint8_t *u, size_t u_len, const uint8_t *v,
+                                 size_t v_len, size_t mb_cols, size_t mb_rows, size_t y_stride, size_t uv_stride,
+                                 const uint8_t *src_y, size_t src_y_len, const uint8_t *src_u, size_t src_u_len,
+                                 const uint8_t *src_v, size_t src_v_len, size_t width, size_t height,
+                                 size_t src_y_stride, size_t src_uv_stride, uint64_t *sum);
+
+/*
+ * The level and sharpness whose key pass leaves the least error sum, and how many candidates were scored at a level above
+ * 0. The scratch planes have the reconstruction's strides; their grid is left as the chosen pair's pass leaves it.
+ * Refused as the sums are, the scratch planes held to VP8LF_SHORT_PLANE too, and VP8LF_BAD_ENTRY before
+ * VP8LF_SUM_TOO_LARGE. Lists of wrong length are answered with level 0.
+ */
+uint8_t vp8lf_select_filter_params(
+    const uint8_t *y, size_t y_len, const uint8_t *u, size_t u_len, const uint8_t *v, size_t v_len, size_t mb_cols,
+    size_t mb_rows, size_t y_stride, size_t uv_stride, const uint8_t *src_y, size_t src_y_len, const uint8_t *src_u,
+    size_t src_u_len, const uint8_t *src_v, size_t src_v_len, size_t width, size_t height, size_t src_y_stride,
+    size_t src_uv_stride, const uint8_t *modes, size_t modes_len, const uint8_t *segments,
+    size_t segments_len, const uint8_t *flags, size_t flags_len,
+    bool simple, bool key_frame, uint8_t loop_filter_level, uint8_t sharpness_level,
+    bool segmentation_enabled, bool segment_abs, int16_t segment_level_0, int16_t segment_level_1,
+    int16_t segment_level_2, int16_t segment_level_3, bool delta_enabled, int16_t ref_delta_current,
+    int16_t bpred_mode_delta, int16_t ref_delta_last, int16_t ref_delta_golden, int16_t ref_delta_altref,
+    int16_t zero_mv_mode_delta, int16_t other_mv_mode_delta, int16_t split_mv_mode_delta,
+    uint8_t *scratch_y, size_t scratch_y_len, uint8_t *scratch_u, size_t scratch_u_len, uint8_t *scratch_v,
+    size_t scratch_v_len, uint8_t *level, uint8_t *sharpness, size_t *count);
+
+/* The same with the inter pass. */
+uint8_t vp8lf_select_filter_params_inter(
+    const uint8_t *y, size_t y_len, const uint8_t *u, size_t u_len, const uint8_t *v, size_t v_len, size_t mb_cols,
+    size_t mb_rows, size_t y_stride, size_t uv_stride, const uint8_t *src_y, size_t src_y_len, const uint8_t *src_u,
+    size_t src_u_len, const uint8_t *src_v, size_t src_v_len, size_t width, size_t height, size_t src_y_stride,
+    size_t src_uv_stride, const uint8_t *modes, size_t modes_len, const uint8_t *segments,
+    size_t segments_len, const uint8_t *flags, size_t flags_len, const uint8_t *references, size_t references_len,
+    const uint8_t *inter_modes, size_t inter_modes_len,
+    bool simple, bool key_frame, uint8_t loop_filter_level, uint8_t sharpness_level,
+    bool segmentation_enabled, bool segment_abs, int16_t segment_level_0, int16_t segment_level_1,
+    int16_t segment_level_2, int16_t segment_level_3, bool delta_enabled, int16_t ref_delta_current,
+    int16_t bpred_mode_delta, int16_t ref_delta_last, int16_t ref_delta_golden, int16_t ref_delta_altref,
+    int16_t zero_mv_mode_delta, int16_t other_mv_mode_delta, int16_t split_mv_mode_delta,
+    uint8_t *scratch_y, size_t scratch_y_len, uint8_t *scratch_u, size_t scratch_u_len, uint8_t *scratch_v,
+    size_t scratch_v_len, uint8_t *level, uint8_t *sharpness, size_t *count);
+
+/* The level of the same pair, with the same count, refusals and scratch. */
+uint8_t vp8lf_select_filter_level(
+    const uint8_t *y, size_t y_len, const uint8_t *u, size_t u_len, const uint8_t *v, size_t v_len, size_t mb_cols,
+    size_t mb_rows, size_t y_stride, size_t uv_stride, const uint8_t *src_y, size_t src_y_len, const uint8_t *src_u,
+    size_t src_u_len, const uint8_t *src_v, size_t src_v_len, size_t width, size_t height, size_t src_y_stride,
+    size_t src_uv_stride, const uint8_t *modes, size_t modes_len, const uint8_t *segments,
+    size_t segments_len, const uint8_t *flags, size_t flags_len,
+    bool simple, bool key_frame, uint8_t loop_filter_level, uint8_t sharpness_level,
+    bool segmentation_enabled, bool segment_abs, int16_t segment_level_0, int16_t segment_level_1,
+    int16_t segment_level_2, int16_t segment_level_3, bool delta_enabled, int16_t ref_delta_current,
+    int16_t bpred_mode_delta, int16_t ref_delta_last, int16_t ref_delta_golden, int16_t ref_delta_altref,
+    int16_t zero_mv_mode_delta, int16_t other_mv_mode_delta, int16_t split_mv_mode_delta,
+    uint8_t *scratch_y, size_t scratch_y_len, uint8_t *scratch_u, size_t scratch_u_len, uint8_t *scratch_v,
+    size_t scratch_v_len, uint8_t *level, size_t *count);
+
+/* The same with the inter pass. */
+uint8_t vp8lf_select_filter_level_inter(
+    const uint8_t *y, size_t y_len, const uint8_t *u, size_t u_len, const uint8_t *v, size_t v_len, size_t mb_cols,
+    size_t mb_rows, size_t y_stride, size_t uv_stride, const uint8_t *src_y, size_t src_y_len, const uint8_t *src_u,
+    size_t src_u_len, const uint8_t *src_v, size_t src_v_len, size_t width, size_t height, size_t src_y_stride,
+    size_t src_uv_stride, const uint8_t *modes, size_t modes_len, const uint8_t *segments,
+    size_t segments_len, const uint8_t *flags, size_t flags_len, const uint8_t *references, size_t references_len,
+    const uint8_t *inter_modes, size_t inter_modes_len,
+    bool simple, bool key_frame, uint8_t loop_filter_level, uint8_t sharpness_level,
+    bool segmentation_enabled, bool segment_abs, int16_t segment_level_0, int16_t segment_level_1,
+    int16_t segment_level_2, int16_t segment_level_3, bool delta_enabled, int16_t ref_delta_current,
+    int16_t bpred_mode_delta, int16_t ref_delta_last, int16_t ref_delta_golden, int16_t ref_delta_altref,
+    int16_t zero_mv_mode_delta, int16_t other_mv_mode_delta, int16_t split_mv_mode_delta,
+    uint8_t *scratch_y, size_t scratch_y_len, uint8_t *scratch_u, size_t scratch_u_len, uint8_t *scratch_v,
+    size_t scratch_v_len, uint8_t *level, size_t *count);
+
 #ifdef __cplusplus
 }
 #endif

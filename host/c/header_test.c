@@ -356,6 +356,42 @@ static void final_rows(size_t mb_cols, size_t mb_rows, size_t start, long long n
     check("its chroma rows", (long long)chroma, (long long)chroma_out);
 }
 
+/* A flat picture of one macroblock that equals its source: no candidate is better than leaving it alone. */
+static void search(void)
+{
+    static uint8_t plane[256], source[256], scratch_y[256], scratch_u[64], scratch_v[64];
+    const uint8_t zero[1] = {0};
+    uint64_t sum = 99;
+    uint8_t level = 99, sharpness = 99;
+    size_t count = 99;
+#define SUM(width, height)                                                                                            \
+    vp8lf_reconstruction_ssd(plane, 256, plane, 64, plane, 64, 1, 1, 16, 8, source, 256, source, 64, source, 64,     \
+                             width, height, 16, 8, &sum)
+    check("a source that is too wide", VP8LF_SOURCE_TOO_LARGE, SUM(17, 0));
+    check("its sum", 99, (long long)sum);
+    check("a source that is equal", VP8LF_OK, SUM(16, 16));
+    check("its sum", 0, (long long)sum);
+    source[0] = 3;
+    check("a source that differs", VP8LF_OK, SUM(1, 1));
+    check("its sum, 9 in each plane", 27, (long long)sum);
+    source[0] = 0;
+#define PICTURE plane, 256, plane, 64, plane, 64, 1, 1, 16, 8, source, 256, source, 64, source, 64, 16, 16, 16, 8
+#define SCRATCH scratch_y, 256, scratch_u, 64, scratch_v, 64
+#define CHOSEN(call, wanted_sharpness)                                                                                \
+    (level = 99, sharpness = 99, count = 99, check(#call, VP8LF_OK, call), check("its level", 0, level),             \
+     check("its sharpness", wanted_sharpness, sharpness), check("its count", 19, (long long)count))
+    CHOSEN(vp8lf_select_filter_params(PICTURE, zero, 1, zero, 1, zero, 1, AT_63(false), SCRATCH, &level, &sharpness,
+                                      &count), 0);
+    CHOSEN(vp8lf_select_filter_params_inter(PICTURE, zero, 1, zero, 1, zero, 1, zero, 1, zero, 1, AT_63(false), SCRATCH,
+                                            &level, &sharpness, &count), 0);
+    CHOSEN(vp8lf_select_filter_level(PICTURE, zero, 1, zero, 1, zero, 1, AT_63(true), SCRATCH, &level, &count), 99);
+    CHOSEN(vp8lf_select_filter_level_inter(PICTURE, zero, 1, zero, 1, zero, 1, zero, 1, zero, 1, AT_63(true), SCRATCH,
+                                           &level, &count), 99);
+    check("a scratch plane that is short", VP8LF_SHORT_PLANE,
+          vp8lf_select_filter_level(PICTURE, zero, 1, zero, 1, zero, 1, AT_63(true), scratch_y, 255, scratch_u, 64,
+                                    scratch_v, 64, &level, &count));
+}
+
 int main(void)
 {
     numbers();
@@ -387,6 +423,7 @@ int main(void)
     final_rows(2, 3, 7, VP8LF_START_TOO_LARGE, 99, 99);
     final_rows(1025, 1, SIZE_MAX, VP8LF_GRID_TOO_LARGE, 99, 99);
     final_rows(0, SIZE_MAX, SIZE_MAX, VP8LF_OK, 0, 0);
+    search();
     if (failures > 0) {
         printf("header: %d of %d checks failed\n", failures, checks);
         return 1;

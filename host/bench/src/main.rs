@@ -1,8 +1,10 @@
-//! Times both passes of the library against the Rust's on the recorded frames for timing, in one run and in turn, and
+//! Times both passes and the search of the library against the Rust's on the recorded frames for timing, in one run and in turn, and
 //! prints each smallest time of the library as a part of the Rust's smallest time.
 //!
 //! The level is forced: every macroblock has it, whatever its segment, reference and mode. "Rows" halts after each row
 //! of macroblocks.
+
+mod search;
 
 use entries::bytes::Records;
 use entries::{Layout, Lists};
@@ -51,6 +53,11 @@ fn main() -> ExitCode {
             geometric_mean(chosen.map(|(_, ratios)| ratios[variant]))
         };
         println!("{:<34} {:>9} {:>8.3} {:>8.3}", format!("geometric mean, {name}"), "", of(0), of(1));
+    }
+    for frame in &frames {
+        for simple in [false, true] {
+            search::compare(frame, simple, repetitions.min(5));
+        }
     }
     ExitCode::SUCCESS
 }

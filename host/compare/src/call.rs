@@ -181,7 +181,7 @@ impl Call {
     }
 
     /// The Rust's records for the lists that the pass reads.
-    fn records(&self) -> Records {
+    pub fn records(&self) -> Records {
         let [modes, segments, flags, references, inter_modes] = self.lists.each_ref().map(Vec::as_slice);
         let lists = match self.pass {
             Pass::Key => Lists { modes, segments, flags, references: &[], inter_modes: &[] },
@@ -190,7 +190,7 @@ impl Call {
         Records::of(&lists).expect("entries that stand for something")
     }
 
-    fn rust_planes(&self) -> KeyframePlanes {
+    pub fn rust_planes(&self) -> KeyframePlanes {
         let [y, u, v] = self.planes.clone();
         let Layout { columns: mb_cols, rows: mb_rows, y_stride, uv_stride } = self.layout;
         KeyframePlanes { y, u, v, y_stride, uv_stride, mb_cols, mb_rows }
@@ -234,7 +234,7 @@ pub fn least_length(layout: &Layout, plane: usize) -> usize {
     (SIDE[plane] * layout.rows - 1) * stride + SIDE[plane] * layout.columns
 }
 
-fn run_rust(pass: Pass, planes: &mut KeyframePlanes, records: &Records, config: &FrameFilterConfig) {
+pub fn run_rust(pass: Pass, planes: &mut KeyframePlanes, records: &Records, config: &FrameFilterConfig) {
     let Records { modes, has_coeffs, references, inter_modes } = records;
     match pass {
         Pass::Key => oracle::filter_frame_flags(planes, modes, has_coeffs, config),

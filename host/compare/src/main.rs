@@ -18,6 +18,7 @@ mod random;
 mod reach;
 mod recorded;
 mod refusals;
+mod search;
 mod settings;
 mod shrink;
 mod smaller_call;
@@ -45,6 +46,7 @@ const MODULES: &[(&str, Comparison)] = &[
     ("halting", halting::compare),
     ("final_rows", final_rows::compare),
     ("film", recorded::compare),
+    ("search", search::compare),
 ];
 
 /// How much to compare.

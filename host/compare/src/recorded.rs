@@ -118,7 +118,7 @@ fn add_case(whole: &Call, done: Done, kind: &mut Kind) {
 }
 
 /// The whole pass on a frame.
-fn call(frame: &Frame, random: &mut Random) -> Call {
+pub fn call(frame: &Frame, random: &mut Random) -> Call {
     let (columns, rows) = (frame.columns(), frame.rows());
     let config = frame.config();
     Call {

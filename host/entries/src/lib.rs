@@ -12,6 +12,8 @@ pub const NO_WINDOW: u8 = 4;
 pub const WRONG_LENGTH: u8 = 5;
 pub const BAD_ENTRY: u8 = 6;
 pub const START_TOO_LARGE: u8 = 7;
+pub const SOURCE_TOO_LARGE: u8 = 8;
+pub const BAD_SOURCE: u8 = 9;
 
 mod raw {
     #[link(name = "loop_filter", kind = "static")]
@@ -53,6 +55,29 @@ mod raw {
             base: usize,
         ) -> u8;
         pub fn vp8lf_mb_has_coeffs(coeffs: *const i16, coeffs_len: usize) -> bool;
+        pub fn vp8lf_reconstruction_ssd(
+            y: *const u8,
+            y_len: usize,
+            u: *const u8,
+            u_len: usize,
+            v: *const u8,
+            v_len: usize,
+            mb_cols: usize,
+            mb_rows: usize,
+            y_stride: usize,
+            uv_stride: usize,
+            src_y: *const u8,
+            src_y_len: usize,
+            src_u: *const u8,
+            src_u_len: usize,
+            src_v: *const u8,
+            src_v_len: usize,
+            width: usize,
+            height: usize,
+            src_y_stride: usize,
+            src_uv_stride: usize,
+            sum: &mut u64,
+        ) -> u8;
         pub safe fn vp8lf_final_rows(
             mb_cols: usize,
             mb_rows: usize,
@@ -187,6 +212,48 @@ with_settings! {
         inter_modes: *const u8, inter_modes_len: usize
         ; start: usize, allowance: usize, count: &mut usize, next: &mut usize
     ) -> u8;
+    fn vp8lf_select_filter_params(
+        y: *const u8, y_len: usize, u: *const u8, u_len: usize, v: *const u8, v_len: usize,
+        mb_cols: usize, mb_rows: usize, y_stride: usize, uv_stride: usize,
+        src_y: *const u8, src_y_len: usize, src_u: *const u8, src_u_len: usize, src_v: *const u8, src_v_len: usize,
+        width: usize, height: usize, src_y_stride: usize, src_uv_stride: usize,
+        modes: *const u8, modes_len: usize, segments: *const u8, segments_len: usize,
+        flags: *const u8, flags_len: usize
+        ; scratch_y: *mut u8, scratch_y_len: usize, scratch_u: *mut u8, scratch_u_len: usize,
+        scratch_v: *mut u8, scratch_v_len: usize, level: &mut u8, sharpness: &mut u8, count: &mut usize
+    ) -> u8;
+    fn vp8lf_select_filter_level(
+        y: *const u8, y_len: usize, u: *const u8, u_len: usize, v: *const u8, v_len: usize,
+        mb_cols: usize, mb_rows: usize, y_stride: usize, uv_stride: usize,
+        src_y: *const u8, src_y_len: usize, src_u: *const u8, src_u_len: usize, src_v: *const u8, src_v_len: usize,
+        width: usize, height: usize, src_y_stride: usize, src_uv_stride: usize,
+        modes: *const u8, modes_len: usize, segments: *const u8, segments_len: usize,
+        flags: *const u8, flags_len: usize
+        ; scratch_y: *mut u8, scratch_y_len: usize, scratch_u: *mut u8, scratch_u_len: usize,
+        scratch_v: *mut u8, scratch_v_len: usize, level: &mut u8, count: &mut usize
+    ) -> u8;
+    fn vp8lf_select_filter_params_inter(
+        y: *const u8, y_len: usize, u: *const u8, u_len: usize, v: *const u8, v_len: usize,
+        mb_cols: usize, mb_rows: usize, y_stride: usize, uv_stride: usize,
+        src_y: *const u8, src_y_len: usize, src_u: *const u8, src_u_len: usize, src_v: *const u8, src_v_len: usize,
+        width: usize, height: usize, src_y_stride: usize, src_uv_stride: usize,
+        modes: *const u8, modes_len: usize, segments: *const u8, segments_len: usize,
+        flags: *const u8, flags_len: usize, references: *const u8, references_len: usize,
+        inter_modes: *const u8, inter_modes_len: usize
+        ; scratch_y: *mut u8, scratch_y_len: usize, scratch_u: *mut u8, scratch_u_len: usize,
+        scratch_v: *mut u8, scratch_v_len: usize, level: &mut u8, sharpness: &mut u8, count: &mut usize
+    ) -> u8;
+    fn vp8lf_select_filter_level_inter(
+        y: *const u8, y_len: usize, u: *const u8, u_len: usize, v: *const u8, v_len: usize,
+        mb_cols: usize, mb_rows: usize, y_stride: usize, uv_stride: usize,
+        src_y: *const u8, src_y_len: usize, src_u: *const u8, src_u_len: usize, src_v: *const u8, src_v_len: usize,
+        width: usize, height: usize, src_y_stride: usize, src_uv_stride: usize,
+        modes: *const u8, modes_len: usize, segments: *const u8, segments_len: usize,
+        flags: *const u8, flags_len: usize, references: *const u8, references_len: usize,
+        inter_modes: *const u8, inter_modes_len: usize
+        ; scratch_y: *mut u8, scratch_y_len: usize, scratch_u: *mut u8, scratch_u_len: usize,
+        scratch_v: *mut u8, scratch_v_len: usize, level: &mut u8, count: &mut usize
+    ) -> u8;
 }
 
 pub fn calculate_mb_filter_level(config: &FrameFilterConfig, segment: u8, mode: u8, level: &mut u8) -> u8 {
@@ -314,4 +381,155 @@ pub fn filter_inter_frame(
 pub fn final_rows(layout: &Layout, start: usize, luma: &mut usize, chroma: &mut usize) -> u8 {
     let Layout { columns, rows, y_stride, uv_stride } = *layout;
     raw::vp8lf_final_rows(columns, rows, y_stride, uv_stride, start, luma, chroma)
+}
+
+/// The picture that a reconstruction is measured against. Width and height are counted in luma samples.
+#[derive(Clone, Copy)]
+pub struct Source<'a> {
+    pub planes: [&'a [u8]; 3],
+    pub width: usize,
+    pub height: usize,
+    pub y_stride: usize,
+    pub uv_stride: usize,
+}
+
+/// What a search answers.
+#[derive(Clone, Copy, Debug, PartialEq)]
+pub struct Choice {
+    pub level: u8,
+    pub sharpness: u8,
+    pub count: usize,
+}
+
+#[rustfmt::skip]
+pub fn select_filter_params(
+    [y, u, v]: [&[u8]; 3],
+    layout: &Layout,
+    source: &Source,
+    lists: &Lists,
+    config: &FrameFilterConfig,
+    [ty, tu, tv]: [&mut [u8]; 3],
+    choice: &mut Choice,
+) -> u8 {
+    let Layout { columns, rows, y_stride, uv_stride } = *layout;
+    let Source { planes: [sy, su, sv], width, height, y_stride: src_y_stride, uv_stride: src_uv_stride } = *source;
+    let Lists { modes, segments, flags, .. } = *lists;
+    // SAFETY: each slice's own pointer and length.
+    unsafe {
+        recorded::vp8lf_select_filter_params(
+            y.as_ptr(), y.len(), u.as_ptr(), u.len(), v.as_ptr(), v.len(),
+            columns, rows, y_stride, uv_stride,
+            sy.as_ptr(), sy.len(), su.as_ptr(), su.len(), sv.as_ptr(), sv.len(),
+            width, height, src_y_stride, src_uv_stride,
+            modes.as_ptr(), modes.len(), segments.as_ptr(), segments.len(), flags.as_ptr(), flags.len(),
+            config,
+            ty.as_mut_ptr(), ty.len(), tu.as_mut_ptr(), tu.len(), tv.as_mut_ptr(), tv.len(),
+            &mut choice.level, &mut choice.sharpness, &mut choice.count,
+        )
+    }
+}
+
+#[allow(clippy::too_many_arguments)]
+#[rustfmt::skip]
+pub fn select_filter_level(
+    [y, u, v]: [&[u8]; 3],
+    layout: &Layout,
+    source: &Source,
+    lists: &Lists,
+    config: &FrameFilterConfig,
+    [ty, tu, tv]: [&mut [u8]; 3],
+    level: &mut u8,
+    count: &mut usize,
+) -> u8 {
+    let Layout { columns, rows, y_stride, uv_stride } = *layout;
+    let Source { planes: [sy, su, sv], width, height, y_stride: src_y_stride, uv_stride: src_uv_stride } = *source;
+    let Lists { modes, segments, flags, .. } = *lists;
+    // SAFETY: each slice's own pointer and length.
+    unsafe {
+        recorded::vp8lf_select_filter_level(
+            y.as_ptr(), y.len(), u.as_ptr(), u.len(), v.as_ptr(), v.len(),
+            columns, rows, y_stride, uv_stride,
+            sy.as_ptr(), sy.len(), su.as_ptr(), su.len(), sv.as_ptr(), sv.len(),
+            width, height, src_y_stride, src_uv_stride,
+            modes.as_ptr(), modes.len(), segments.as_ptr(), segments.len(), flags.as_ptr(), flags.len(),
+            config,
+            ty.as_mut_ptr(), ty.len(), tu.as_mut_ptr(), tu.len(), tv.as_mut_ptr(), tv.len(),
+            level, count,
+        )
+    }
+}
+
+#[rustfmt::skip]
+pub fn select_filter_params_inter(
+    [y, u, v]: [&[u8]; 3],
+    layout: &Layout,
+    source: &Source,
+    lists: &Lists,
+    config: &FrameFilterConfig,
+    [ty, tu, tv]: [&mut [u8]; 3],
+    choice: &mut Choice,
+) -> u8 {
+    let Layout { columns, rows, y_stride, uv_stride } = *layout;
+    let Source { planes: [sy, su, sv], width, height, y_stride: src_y_stride, uv_stride: src_uv_stride } = *source;
+    let Lists { modes, segments, flags, references, inter_modes } = *lists;
+    // SAFETY: each slice's own pointer and length.
+    unsafe {
+        recorded::vp8lf_select_filter_params_inter(
+            y.as_ptr(), y.len(), u.as_ptr(), u.len(), v.as_ptr(), v.len(),
+            columns, rows, y_stride, uv_stride,
+            sy.as_ptr(), sy.len(), su.as_ptr(), su.len(), sv.as_ptr(), sv.len(),
+            width, height, src_y_stride, src_uv_stride,
+            modes.as_ptr(), modes.len(), segments.as_ptr(), segments.len(), flags.as_ptr(), flags.len(),
+            references.as_ptr(), references.len(), inter_modes.as_ptr(), inter_modes.len(),
+            config,
+            ty.as_mut_ptr(), ty.len(), tu.as_mut_ptr(), tu.len(), tv.as_mut_ptr(), tv.len(),
+            &mut choice.level, &mut choice.sharpness, &mut choice.count,
+        )
+    }
+}
+
+#[allow(clippy::too_many_arguments)]
+#[rustfmt::skip]
+pub fn select_filter_level_inter(
+    [y, u, v]: [&[u8]; 3],
+    layout: &Layout,
+    source: &Source,
+    lists: &Lists,
+    config: &FrameFilterConfig,
+    [ty, tu, tv]: [&mut [u8]; 3],
+    level: &mut u8,
+    count: &mut usize,
+) -> u8 {
+    let Layout { columns, rows, y_stride, uv_stride } = *layout;
+    let Source { planes: [sy, su, sv], width, height, y_stride: src_y_stride, uv_stride: src_uv_stride } = *source;
+    let Lists { modes, segments, flags, references, inter_modes } = *lists;
+    // SAFETY: each slice's own pointer and length.
+    unsafe {
+        recorded::vp8lf_select_filter_level_inter(
+            y.as_ptr(), y.len(), u.as_ptr(), u.len(), v.as_ptr(), v.len(),
+            columns, rows, y_stride, uv_stride,
+            sy.as_ptr(), sy.len(), su.as_ptr(), su.len(), sv.as_ptr(), sv.len(),
+            width, height, src_y_stride, src_uv_stride,
+            modes.as_ptr(), modes.len(), segments.as_ptr(), segments.len(), flags.as_ptr(), flags.len(),
+            references.as_ptr(), references.len(), inter_modes.as_ptr(), inter_modes.len(),
+            config,
+            ty.as_mut_ptr(), ty.len(), tu.as_mut_ptr(), tu.len(), tv.as_mut_ptr(), tv.len(),
+            level, count,
+        )
+    }
+}
+
+#[rustfmt::skip]
+pub fn reconstruction_ssd([y, u, v]: [&[u8]; 3], layout: &Layout, source: &Source, sum: &mut u64) -> u8 {
+    let Layout { columns, rows, y_stride, uv_stride } = *layout;
+    let Source { planes: [sy, su, sv], width, height, y_stride: src_y_stride, uv_stride: src_uv_stride } = *source;
+    // SAFETY: each slice's own pointer and length.
+    unsafe {
+        raw::vp8lf_reconstruction_ssd(
+            y.as_ptr(), y.len(), u.as_ptr(), u.len(), v.as_ptr(), v.len(),
+            columns, rows, y_stride, uv_stride,
+            sy.as_ptr(), sy.len(), su.as_ptr(), su.len(), sv.as_ptr(), sv.len(),
+            width, height, src_y_stride, src_uv_stride, sum,
+        )
+    }
 }

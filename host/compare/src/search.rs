@@ -1,0 +1,498 @@
+//! Error sums and the search for level and sharpness: random small pictures, damaged ones and film frames. Compared are
+//! the answers of all entries, the number of candidates, every scratch sample, and that nothing else moved.
+
+use crate::Plan;
+use crate::call::{Call, LARGEST, PASSES, Pass, Planes, SIDE, least_length, run_rust};
+use crate::ffi::{self, Choice, Lists, Source};
+use crate::guard::{self, Guarded};
+use crate::pictures::picture;
+use crate::random::Random;
+use crate::recorded;
+use crate::settings;
+use crate::tally::{Kind, Tally};
+use oracle::{InterFilterInfo, KeyframePlanes, SourcePlanes, loop_filter};
+use std::fmt;
+
+/// What the out-parameters hold before a call.
+const NO_SUM: u64 = 0x5A5A_5A5A_5A5A_5A5A;
+const UNTOUCHED: Choice = Choice { level: 0x5A, sharpness: 0xA5, count: 0x5A5A_5A5A };
+
+/// The only counts that can occur, 19 to 30.
+const COUNTS: [(&str, usize); 5] =
+    [("count 19", 19), ("count 26", 26), ("count 27", 27), ("count 29", 29), ("count 30", 30)];
+
+const CLASSES: [&str; 15] = [
+    "count 19",
+    "count 26",
+    "count 27",
+    "count 29",
+    "count 30",
+    "level 0",
+    "level above 0",
+    "other sharpness",
+    "base sharpness above 7",
+    "simple filter",
+    "normal filter",
+    "odd size",
+    "width or height 0",
+    "lists of wrong length",
+    "scratch outside the grid",
+];
+
+const REFUSED: [&str; 7] =
+    ["refused 1", "refused 2", "refused 3", "refused 8", "refused 9", "refused 6", "not refused"];
+
+pub fn compare(plan: &Plan, tally: &mut Tally) {
+    for pass in PASSES {
+        let name = match pass {
+            Pass::Key => "select_filter_params",
+            Pass::Inter => "select_filter_params_inter",
+        };
+        tally.run(&format!("{name}, random pictures"), &CLASSES, |kind| pictures(plan, pass, kind));
+        tally.run(&format!("{name}, damaged"), &REFUSED, |kind| damaged(plan, pass, kind));
+    }
+    tally.run("search on kept film", &["key", "inter", "level 0", "level above 0"], |kind| on_film(plan, kind));
+}
+
+/// One call of a search. The start and the allowance of the pass are not used.
+#[derive(Clone)]
+struct Search {
+    call: Call,
+    source: Planes,
+    width: usize,
+    height: usize,
+    strides: [usize; 3],
+    scratch: Planes,
+}
+
+#[derive(PartialEq)]
+struct Outcome {
+    /// Of the error sum: the number of the refusal, and the sum.
+    sum: (u8, u64),
+    answer: u8,
+    choice: Choice,
+    scratch: Planes,
+    others_stay: bool,
+    /// `select_filter_level` answers and leaves the same.
+    alike: bool,
+}
+
+struct Memory {
+    lent: [Guarded; 14],
+}
+
+impl Memory {
+    fn new() -> Memory {
+        Memory { lent: std::array::from_fn(|_| Guarded::new(1 << 16)) }
+    }
+}
+
+impl Search {
+    /// Samples of a source row, and rows, in a plane.
+    fn visible(&self, plane: usize) -> (usize, usize) {
+        match plane {
+            0 => (self.width, self.height),
+            _ => (self.width.div_ceil(2), self.height.div_ceil(2)),
+        }
+    }
+
+    fn has_grid(&self) -> bool {
+        self.call.layout.columns > 0 && self.call.layout.rows > 0
+    }
+
+    fn right_lengths(&self) -> bool {
+        let n = self.call.macroblocks();
+        self.call.lists[..self.call.lists_read()].iter().all(|list| list.len() == n)
+    }
+
+    /// 1, 2, 3 of each of the planes, 8, 9, in this order; or 0.
+    fn refusal_of(&self, lent: &[&Planes]) -> u8 {
+        let layout = &self.call.layout;
+        let (columns, rows) = (layout.columns, layout.rows);
+        if self.has_grid() {
+            if columns > 1024 || rows > 1024 {
+                return ffi::GRID_TOO_LARGE;
+            }
+            let stride = |plane| self.call.stride(plane);
+            if (0..3).any(|plane| stride(plane) < SIDE[plane] * columns || stride(plane) > 65_536) {
+                return ffi::BAD_STRIDE;
+            }
+            let short = |planes: &&Planes| (0..3).any(|plane| planes[plane].len() < least_length(layout, plane));
+            if lent.iter().any(short) {
+                return ffi::SHORT_PLANE;
+            }
+        }
+        let over = |size: usize, macroblocks: usize| size as u128 > 16 * macroblocks as u128;
+        if over(self.width, columns) || over(self.height, rows) {
+            return ffi::SOURCE_TOO_LARGE;
+        }
+        if self.width > 0 && self.height > 0 && (0..3).any(|plane| self.bad_source(plane)) {
+            return ffi::BAD_SOURCE;
+        }
+        0
+    }
+
+    /// Document 01's conditions in the order of a search.
+    fn refusal(&self) -> u8 {
+        let bad = |(list, largest): (&Vec<u8>, u8)| list.iter().any(|byte| *byte > largest);
+        let lists = &self.call.lists[..self.call.lists_read()];
+        match self.refusal_of(&[&self.call.planes, &self.scratch]) {
+            0 if self.has_grid() && self.right_lengths() && lists.iter().zip(LARGEST).any(bad) => ffi::BAD_ENTRY,
+            number => number,
+        }
+    }
+
+    fn bad_source(&self, plane: usize) -> bool {
+        let ((wide, high), stride) = (self.visible(plane), self.strides[plane]);
+        stride < wide || stride > 65_536 || self.source[plane].len() < (high - 1) * stride + wide
+    }
+
+    fn expected(&self) -> Outcome {
+        let sum = match self.refusal_of(&[&self.call.planes]) {
+            0 => (0, self.sum(&self.call.rust_planes())),
+            number => (number, NO_SUM),
+        };
+        let answer = self.refusal();
+        let mut outcome =
+            Outcome { sum, answer, choice: UNTOUCHED, scratch: self.scratch.clone(), others_stay: true, alike: true };
+        if answer == 0 {
+            let (level, sharpness, count) = self.by_the_rule();
+            outcome.choice = Choice { level, sharpness, count };
+            let chosen = self.candidate(level, sharpness);
+            self.copy_grid([&chosen.y, &chosen.u, &chosen.v], &mut outcome.scratch);
+        }
+        outcome
+    }
+
+    fn copy_grid(&self, from: [&[u8]; 3], to: &mut Planes) {
+        for plane in 0..3 {
+            let (stride, wide) = (self.call.stride(plane), SIDE[plane] * self.call.layout.columns);
+            for row in 0..if self.has_grid() { SIDE[plane] * self.call.layout.rows } else { 0 } {
+                let at = row * stride..row * stride + wide;
+                to[plane][at.clone()].copy_from_slice(&from[plane][at]);
+            }
+        }
+    }
+
+    /// What the Rust's pass makes of the reconstruction. Level 0 leaves it.
+    fn candidate(&self, level: u8, sharpness: u8) -> KeyframePlanes {
+        let mut planes = self.call.rust_planes();
+        if level > 0 && self.has_grid() && self.right_lengths() {
+            let config = self.call.config.with_loop_filter_level(level).with_sharpness_level(sharpness);
+            run_rust(self.call.pass, &mut planes, &self.call.records(), &config);
+        }
+        planes
+    }
+
+    /// The Rust's sum. It is 0 where the source has no samples, where the Rust may panic.
+    fn sum(&self, planes: &KeyframePlanes) -> u64 {
+        if self.width == 0 || self.height == 0 {
+            return 0;
+        }
+        loop_filter::reconstruction_ssd(planes, &self.rust_source())
+    }
+
+    fn rust_source(&self) -> SourcePlanes<'_> {
+        let [y, u, v] = self.source.each_ref().map(Vec::as_slice);
+        let [y_stride, uv_stride, _] = self.strides;
+        SourcePlanes { width: self.width, height: self.height, y, u, v, y_stride, uv_stride }
+    }
+
+    /// Document 01, Search: level, sharpness and count. Every sum is the Rust's.
+    fn by_the_rule(&self) -> (u8, u8, usize) {
+        let base = self.call.config.sharpness_level.min(7);
+        let (mut best, mut count) = ((0, base, self.sum(&self.candidate(0, base))), 0);
+        let mut consider = |best: &mut (u8, u8, u64), level: u8, sharpness: u8| {
+            count += (level > 0) as usize;
+            let sum = self.sum(&self.candidate(level, sharpness));
+            if sum < best.2 {
+                *best = (level, sharpness, sum);
+            }
+        };
+        for level in (4..=60).step_by(4).chain([63]) {
+            consider(&mut best, level, base);
+        }
+        let winner = best.0;
+        for level in (0..=63u8).filter(|level| level.abs_diff(winner) <= 3) {
+            if level != best.0 {
+                consider(&mut best, level, base);
+            }
+        }
+        if best.0 > 0 {
+            let level = best.0;
+            for sharpness in (0..=7).filter(|sharpness| *sharpness != base) {
+                consider(&mut best, level, sharpness);
+            }
+        }
+        (best.0, best.1, count)
+    }
+
+    /// What the Rust's own search answers, where it has one: level and sharpness.
+    fn rust(&self) -> Option<(u8, u8)> {
+        if self.width == 0 || self.height == 0 || !self.has_grid() || !self.right_lengths() {
+            return None;
+        }
+        let records = self.call.records();
+        let info = InterFilterInfo { ref_frames: &records.references, inter_modes: &records.inter_modes };
+        let inter = (self.call.pass == Pass::Inter).then_some(&info);
+        let (planes, source) = (self.call.rust_planes(), self.rust_source());
+        let (modes, flags, config) = (&records.modes, &records.has_coeffs, &self.call.config);
+        Some(loop_filter::select_filter_params(&planes, modes, flags, config, &source, inter))
+    }
+
+    fn library(&self, memory: &mut Memory) -> Outcome {
+        let before = [&self.call.planes[..], &self.source, &self.call.lists, &self.scratch].concat();
+        let mut lent = memory.lent.iter_mut().zip(&before).map(|(memory, bytes)| memory.lend(self.call.side, bytes));
+        let lent: [&mut [u8]; 14] = std::array::from_fn(|_| lent.next().expect("fourteen slices"));
+        let [y, u, v, sy, su, sv, modes, segments, flags, references, inter_modes, ty, tu, tv] = lent;
+        let planes = [&*y, &*u, &*v];
+        let source = Source {
+            planes: [&*sy, &*su, &*sv],
+            width: self.width,
+            height: self.height,
+            y_stride: self.strides[0],
+            uv_stride: self.strides[1],
+        };
+        let lists = Lists { modes, segments, flags, references, inter_modes };
+        let mut choice = UNTOUCHED;
+        let (layout, config) = (&self.call.layout, &self.call.config);
+        let mut sum = (0, NO_SUM);
+        sum.0 = guard::calling(self, || ffi::reconstruction_ssd(planes, layout, &source, &mut sum.1));
+        let entry = match self.call.pass {
+            Pass::Key => ffi::select_filter_params,
+            Pass::Inter => ffi::select_filter_params_inter,
+        };
+        let answer = guard::calling(self, || {
+            entry(planes, layout, &source, &lists, config, [&mut *ty, &mut *tu, &mut *tv], &mut choice)
+        });
+        // The level alone: the same answer, and the same scratch planes once more.
+        let scratch = [ty.to_vec(), tu.to_vec(), tv.to_vec()];
+        let (ty, tu, tv) = (restored(ty, &before[11]), restored(tu, &before[12]), restored(tv, &before[13]));
+        let (mut level, mut count) = (UNTOUCHED.level, UNTOUCHED.count);
+        let level_entry = match self.call.pass {
+            Pass::Key => ffi::select_filter_level,
+            Pass::Inter => ffi::select_filter_level_inter,
+        };
+        let level_answer = guard::calling(self, || {
+            let lent = [&mut *ty, &mut *tu, &mut *tv];
+            level_entry(planes, layout, &source, &lists, config, lent, &mut level, &mut count)
+        });
+        let alike = (level_answer, level, count) == (answer, choice.level, choice.count)
+            && scratch == [ty.to_vec(), tu.to_vec(), tv.to_vec()];
+        let Lists { modes, segments, flags, references, inter_modes } = lists;
+        let others = [y, u, v, sy, su, sv, modes, segments, flags, references, inter_modes];
+        let others_stay = others.iter().zip(&before).all(|(now, before)| **now == before[..]);
+        Outcome { sum, answer, choice, scratch, others_stay, alike }
+    }
+
+    /// Compares, and answers what is expected.
+    fn same(&self, memory: &mut Memory) -> Result<Outcome, String> {
+        let expected = self.expected();
+        if expected.answer == 0 {
+            let rule = (expected.choice.level, expected.choice.sharpness);
+            if self.rust().is_some_and(|rust| rust != rule) {
+                return Err(format!("{self}\n  the rule: {rule:?}\n  the Rust: {:?}", self.rust()));
+            }
+        }
+        let library = self.library(memory);
+        if library == expected {
+            return Ok(expected);
+        }
+        let smallest = self.smallest(memory);
+        let (expected, library) = (smallest.expected(), smallest.library(memory));
+        Err(format!("{smallest}\n  expected: {expected}\n  library: {library}"))
+    }
+
+    /// The simplest settings and source size found that still differ.
+    fn smallest(&self, memory: &mut Memory) -> Search {
+        let mut found = self.clone();
+        loop {
+            let configs = settings::simpler(&found.call.config).into_iter();
+            let mut simpler: Vec<Search> =
+                configs.map(|config| Search { call: Call { config, ..found.call.clone() }, ..found.clone() }).collect();
+            for width in [found.width / 2, found.width.saturating_sub(1)] {
+                simpler.push(Search { width, ..found.clone() });
+            }
+            for height in [found.height / 2, found.height.saturating_sub(1)] {
+                simpler.push(Search { height, ..found.clone() });
+            }
+            simpler.retain(|s| (s.width, s.height, s.call.config) != (found.width, found.height, found.call.config));
+            match simpler.into_iter().find(|search| search.library(memory) != search.expected()) {
+                Some(search) => found = search,
+                None => return found,
+            }
+        }
+    }
+}
+
+impl fmt::Display for Outcome {
+    fn fmt(&self, f: &mut fmt::Formatter<'_>) -> fmt::Result {
+        let sums = self.scratch.each_ref().map(|plane| plane.iter().map(|sample| *sample as u64).sum::<u64>());
+        write!(
+            f,
+            "sum {:?}; refusal {}, {:?}, scratch planes that sum to {sums:?}",
+            self.sum, self.answer, self.choice
+        )?;
+        if !self.others_stay {
+            write!(f, ", and something lent for reading has changed")?;
+        }
+        if self.alike { Ok(()) } else { write!(f, ", and the search for the level alone differs") }
+    }
+}
+
+impl fmt::Display for Search {
+    fn fmt(&self, f: &mut fmt::Formatter<'_>) -> fmt::Result {
+        writeln!(f, "  a search with the picture of\n{}", self.call)?;
+        writeln!(f, "  source {} by {}, strides {:?}", self.width, self.height, self.strides)?;
+        write!(f, "  source {:?}\n  scratch lengths {:?}", self.source, self.scratch.each_ref().map(Vec::len))
+    }
+}
+
+fn restored<'a>(lent: &'a mut [u8], before: &[u8]) -> &'a mut [u8] {
+    lent.copy_from_slice(before);
+    lent
+}
+
+/// A search that is not refused. The source is often what some level makes of the reconstruction.
+fn search(pass: Pass, random: &mut Random) -> Search {
+    let call = picture(pass, 1 + random.below(3), 1 + random.below(3), random);
+    let layout = call.layout;
+    let size = |side: usize, random: &mut Random| match random.below(12) {
+        0 => 0,
+        1..=5 => side,
+        _ => 1 + random.below(side),
+    };
+    let (width, height) = (size(16 * layout.columns, random), size(16 * layout.rows, random));
+    let scratch = call.planes.each_ref().map(|plane| plane.iter().map(|_| random.byte()).collect());
+    let more = [random.one_of(&[0, 0, 1, 30]), random.one_of(&[0, 0, 1, 30])];
+    let strides = [width + more[0], width.div_ceil(2) + more[1], width.div_ceil(2) + more[1]];
+    let mut search = Search { call, source: Default::default(), width, height, strides, scratch };
+    let any = random.below(64) as u8;
+    let level = random.one_of(&[0, 1, 2, 3, 61, 62, 61, 62, any, any, any, any]);
+    let like = search.candidate(level, random.below(8) as u8);
+    let (like, noise) = ([&like.y, &like.u, &like.v], random.one_of(&[1, 1, 2, 4, 256]));
+    search.source = std::array::from_fn(|plane| {
+        let ((wide, high), stride) = (search.visible(plane), strides[plane]);
+        let length = if width == 0 || height == 0 { random.below(9) } else { (high - 1) * stride + wide };
+        let sample = |i: usize| {
+            let at = i / stride.max(1) * search.call.stride(plane) + i % stride.max(1);
+            like[plane].get(at).map_or(0, |sample| sample.wrapping_add(random.below(noise) as u8))
+        };
+        (0..length).map(sample).collect()
+    });
+    search
+}
+
+fn rounds<F>(plan: &Plan, rounds: usize, kind: &mut Kind, compare: F) -> Result<(), String>
+where
+    F: Fn(&mut Random, &mut Memory, &mut Kind) -> Result<(), String> + Sync,
+{
+    kind.in_threads(plan.threads, |thread, kind| {
+        let (mut random, mut memory) = (Random::new(plan.seed ^ (thread as u64 + 1) << 32), Memory::new());
+        (0..rounds.div_ceil(plan.threads)).try_for_each(|_| compare(&mut random, &mut memory, kind))
+    })
+}
+
+fn pictures(plan: &Plan, pass: Pass, kind: &mut Kind) -> Result<(), String> {
+    rounds(plan, if plan.long { 200_000 } else { 6_000 }, kind, |random, memory, kind| {
+        let mut search = search(pass, random);
+        if random.below(20) == 0 {
+            let list = random.below(search.call.lists_read());
+            search.call.lists[list].push(0);
+        }
+        let outcome = search.same(memory)?;
+        classify(&search, &outcome, kind);
+        Ok(())
+    })
+}
+
+fn classify(search: &Search, outcome: &Outcome, kind: &mut Kind) {
+    let (Choice { level, sharpness, count }, config) = (outcome.choice, &search.call.config);
+    let grid = |plane: usize| SIDE[plane] * search.call.layout.columns * SIDE[plane] * search.call.layout.rows;
+    let classes = [
+        ("level 0", level == 0),
+        ("level above 0", level > 0),
+        ("other sharpness", sharpness != config.sharpness_level.min(7)),
+        ("base sharpness above 7", config.sharpness_level > 7),
+        ("simple filter", config.simple),
+        ("normal filter", !config.simple),
+        ("odd size", search.width % 2 == 1 || search.height % 2 == 1),
+        ("width or height 0", search.width == 0 || search.height == 0),
+        ("lists of wrong length", !search.right_lengths()),
+        ("scratch outside the grid", (0..3).any(|plane| search.scratch[plane].len() > grid(plane))),
+    ];
+    kind.add_cases(1);
+    for (name, occurs) in classes.into_iter().chain(COUNTS.map(|(name, number)| (name, number == count))) {
+        kind.add_class(name, occurs as u64);
+    }
+}
+
+/// One or two faults in a search, each at its boundary.
+fn damaged(plan: &Plan, pass: Pass, kind: &mut Kind) -> Result<(), String> {
+    rounds(plan, if plan.long { 200_000 } else { 5_000 }, kind, |random, memory, kind| {
+        let mut search = search(pass, random);
+        for _ in 0..1 + random.below(2) {
+            damage(&mut search, random);
+        }
+        let outcome = search.same(memory)?;
+        kind.add_cases(1);
+        let class = match outcome.answer {
+            0 => "not refused",
+            number => REFUSED.into_iter().find(|class| class.ends_with(&format!(" {number}"))).expect("a class"),
+        };
+        kind.add_class(class, 1);
+        Ok(())
+    })
+}
+
+fn damage(search: &mut Search, random: &mut Random) {
+    let (plane, layout) = (random.below(3), search.call.layout);
+    let shortened = |bytes: &mut Vec<u8>, least: usize| bytes.truncate(least.saturating_sub(1));
+    match random.below(9) {
+        0 => search.call.layout.columns = random.one_of(&[0, 1025, usize::MAX]),
+        1 => search.call.layout.rows = random.one_of(&[0, 1025, usize::MAX]),
+        2 => search.call.layout.y_stride = random.one_of(&[(16 * layout.columns.min(1024)).wrapping_sub(1), 65_537]),
+        3 => search.call.layout.uv_stride = random.one_of(&[(8 * layout.columns.min(1024)).wrapping_sub(1), 65_537]),
+        4 if layout.columns.min(layout.rows) > 0 && layout.columns.max(layout.rows) <= 3 => {
+            let planes = if random.below(2) == 0 { &mut search.call.planes } else { &mut search.scratch };
+            shortened(&mut planes[plane], least_length(&layout, plane));
+        }
+        5 => search.width = random.one_of(&[0, 16 * layout.columns.min(1024) + 1, usize::MAX]),
+        6 => search.height = random.one_of(&[0, 16 * layout.rows.min(1024) + 1, usize::MAX]),
+        7 if random.below(2) == 0 => search.strides[0] = random.one_of(&[search.width.wrapping_sub(1), 65_537]),
+        7 => {
+            let length = search.source[plane].len();
+            shortened(&mut search.source[plane], length);
+        }
+        _ => {
+            let list = random.one_of(&[0, 3, 4]);
+            if random.below(3) == 0 {
+                // A list of wrong length, in which 6 is not judged.
+                search.call.lists[list].push(LARGEST[list] + 1);
+            } else if let Some(entry) = search.call.lists[list].last_mut() {
+                *entry = LARGEST[list] + 1;
+            }
+        }
+    }
+}
+
+/// Every frame of the kept film against what the film's own settings leave.
+fn on_film(plan: &Plan, kind: &mut Kind) -> Result<(), String> {
+    let frames: Vec<_> = film::kept().into_iter().flat_map(|stream| stream.frames).collect();
+    let step = if plan.long { 1 } else { 2 };
+    kind.in_threads(plan.threads, |thread, kind| {
+        let (mut random, mut memory) = (Random::new(plan.seed), Memory::new());
+        for frame in frames.iter().step_by(step).skip(thread).step_by(plan.threads) {
+            let call = recorded::call(frame, &mut random);
+            let (width, height) = frame.visible();
+            let strides = [call.layout.y_stride, call.layout.uv_stride, call.layout.uv_stride];
+            let scratch = call.planes.each_ref().map(|plane| vec![0; plane.len()]);
+            let search = Search { source: call.unbroken(), call, width, height, strides, scratch };
+            let level = search.same(&mut memory)?.choice.level;
+            kind.add_cases(1);
+            kind.add_class(if search.call.pass == Pass::Key { "key" } else { "inter" }, 1);
+            kind.add_class(if level == 0 { "level 0" } else { "level above 0" }, 1);
+        }
+        Ok(())
+    })
+}

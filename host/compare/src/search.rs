@@ -21,7 +21,7 @@ const UNTOUCHED: Choice = Choice { level: 0x5A, sharpness: 0xA5, count: 0x5A5A_5
 const COUNTS: [(&str, usize); 5] =
     [("count 19", 19), ("count 26", 26), ("count 27", 27), ("count 29", 29), ("count 30", 30)];
 
-const CLASSES: [&str; 15] = [
+const CLASSES: [&str; 18] = [
     "count 19",
     "count 26",
     "count 27",
@@ -33,6 +33,9 @@ const CLASSES: [&str; 15] = [
     "base sharpness above 7",
     "simple filter",
     "normal filter",
+    "segmentation",
+    "deltas",
+    "source equal to the reconstruction",
     "odd size",
     "width or height 0",
     "lists of wrong length",
@@ -416,6 +419,9 @@ fn classify(search: &Search, outcome: &Outcome, kind: &mut Kind) {
         ("base sharpness above 7", config.sharpness_level > 7),
         ("simple filter", config.simple),
         ("normal filter", !config.simple),
+        ("segmentation", config.segmentation_enabled),
+        ("deltas", config.delta_enabled),
+        ("source equal to the reconstruction", search.width * search.height > 0 && outcome.sum == (0, 0)),
         ("odd size", search.width % 2 == 1 || search.height % 2 == 1),
         ("width or height 0", search.width == 0 || search.height == 0),
         ("lists of wrong length", !search.right_lengths()),

@@ -162,7 +162,31 @@ fn show_answer(answer: PassAnswer) {
     io::write_all(STDOUT_FILENO, b"\n");
 }
 
-// N: a grid of two macroblocks, halted after one. O: starts 2 and 3 there.
+// A call on a grid of two macroblocks of mode Dc and flag 0.
+fn filter_two(
+    y: &mut [u8],
+    u: &mut [u8],
+    v: &mut [u8],
+    start: usize,
+    allowance: usize,
+) -> PassAnswer {
+    let zero = [0u8; 2];
+    let config = settings(false, 63);
+    filter_frame(
+        y,
+        u,
+        v,
+        layout(2),
+        &zero,
+        &zero,
+        &zero,
+        config,
+        start,
+        allowance,
+    )
+}
+
+// N: halted after one macroblock, then resumed. O: starts 2 and 3.
 fn two_macroblocks() {
     let mut y = [0u8; 512];
     let mut u = [0u8; 128];
@@ -170,37 +194,13 @@ fn two_macroblocks() {
     fill(&mut y, 16);
     fill(&mut u, 8);
     fill(&mut v, 8);
-    let zero = [0u8; 2];
-    let config = settings(false, 63);
     io::write_all(STDOUT_FILENO, b"N first call: ");
-    show_answer(filter_frame(
-        &mut y,
-        &mut u,
-        &mut v,
-        layout(2),
-        &zero,
-        &zero,
-        &zero,
-        config,
-        0,
-        1,
-    ));
+    show_answer(filter_two(&mut y, &mut u, &mut v, 0, 1));
     let y1 = y;
     let u1 = u;
     let v1 = v;
     io::write_all(STDOUT_FILENO, b"N second call: ");
-    show_answer(filter_frame(
-        &mut y,
-        &mut u,
-        &mut v,
-        layout(2),
-        &zero,
-        &zero,
-        &zero,
-        config,
-        1,
-        1,
-    ));
+    show_answer(filter_two(&mut y, &mut u, &mut v, 1, 1));
     io::write_all(STDOUT_FILENO, b"N columns that it changes, y: ");
     show_columns(&y, &y1, 32);
     io::write_all(STDOUT_FILENO, b"N columns that it changes, u: ");
@@ -208,31 +208,9 @@ fn two_macroblocks() {
     io::write_all(STDOUT_FILENO, b"N columns that it changes, v: ");
     show_columns(&v, &v1, 16);
     io::write_all(STDOUT_FILENO, b"O start 2: ");
-    show_answer(filter_frame(
-        &mut y,
-        &mut u,
-        &mut v,
-        layout(2),
-        &zero,
-        &zero,
-        &zero,
-        config,
-        2,
-        5,
-    ));
+    show_answer(filter_two(&mut y, &mut u, &mut v, 2, 5));
     io::write_all(STDOUT_FILENO, b"O start 3: ");
-    show_answer(filter_frame(
-        &mut y,
-        &mut u,
-        &mut v,
-        layout(2),
-        &zero,
-        &zero,
-        &zero,
-        config,
-        3,
-        5,
-    ));
+    show_answer(filter_two(&mut y, &mut u, &mut v, 3, 5));
 }
 
 fn main() {

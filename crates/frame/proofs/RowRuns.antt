@@ -17,7 +17,7 @@ use Rattle.kernels.proofs.SegmentLaws.{stored, stored-at}
 use Rattle.frame.specs.Steps.{steps}
 use Rattle.frame.specs.Edges.{horizontal}
 use Rattle.frame.specs.EdgeCode.{tapFrom, edgeFrom}
-use Rattle.frame.specs.Runs.{rowAt, rowsAt, storeRow, storeRowOf, storeSix, storeFour, SignedRow, SignedRows, SignedInner, innerTaps, edgeTaps, positionOf, edgeOf, runOfEight, runOfFour}
+use Rattle.frame.specs.Runs.{rowAt, rowsAt, storeRow, storeRowOf, storeSix, storeFour, SignedRow, SignedRows, SignedInner, innerTaps, edgeTaps, positionOf, edgeOf, normalKernel, runOfEight, runOfFour}
 use Rattle.frame.proofs.Steps.{steps-ext}
 use Rattle.frame.proofs.Tables.{getD-table}
 use Rattle.frame.proofs.TapNumbers.{s2u-u2s}
@@ -199,6 +199,23 @@ module _ (threshold interior edge n s at : ℕ) (l : List ℕ) (bytes : (i : ℕ
       (store-same n (at + 1 * s) _ l (λ j g. entry k refl n s at l bytes six 0 j (omega arith) g ∙ sub-outer threshold interior edge (gather (tapFrom horizontal s at j) 0 8 l) .second))
       (store-same n (at + 6 * s) _ l (λ j g. entry k refl n s at l bytes six 5 j (omega arith) g ∙ sub-outer threshold interior edge (gather (tapFrom horizontal s at j) 0 8 l) .seventh)))
       ∙ eight-edge k refl n s at l bytes six w
+
+  -- the same of either kind of edge
+  pub either-signed : (mb : Bool) → r ≡ runOfEight (normalKernel mb threshold interior edge) n t → SignedInner n r
+  either-signed true e = mb-signed e
+  either-signed false e = sub-signed e
+
+  pub mb-either : (mb : Bool) → mb ≡ true → n ≤ s → r ≡ runOfEight (normalKernel mb threshold interior edge) n t → (x : List ℕ) → x ≡ storeSix n s at r l
+      → x ≡ edgeFrom horizontal (normalKernel mb threshold interior edge) s at n l
+  mb-either mb h w e x f =
+      subst (λ (b : Bool). x ≡ edgeFrom horizontal (normalKernel b threshold interior edge) s at n l) (sym h)
+      (mb-edge w (subst (λ (b : Bool). r ≡ runOfEight (normalKernel b threshold interior edge) n t) h e) x f)
+
+  pub sub-either : (mb : Bool) → mb ≡ false → n ≤ s → r ≡ runOfEight (normalKernel mb threshold interior edge) n t → (x : List ℕ) → x ≡ storeFour n s at r l
+      → x ≡ edgeFrom horizontal (normalKernel mb threshold interior edge) s at n l
+  sub-either mb h w e x f =
+      subst (λ (b : Bool). x ≡ edgeFrom horizontal (normalKernel b threshold interior edge) s at n l) (sym h)
+      (sub-edge w (subst (λ (b : Bool). r ≡ runOfEight (normalKernel b threshold interior edge) n t) h e) x f)
 
 -- ---- a run of four rows
 

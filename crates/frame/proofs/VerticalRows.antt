@@ -3,7 +3,7 @@
 use mathlib.Core.Path.{_≡_, refl, sym, ap, _∙_}
 use mathlib.Core.List.{List}
 use Prim.Native.Nat.{ℕ, _+_, _*_, _-_, _≤_, _<_}
-use native.Mathlib.Nat.{mul-le-mul-right}
+use native.Mathlib.Nat.{add-zero, mul-le-mul-right}
 use native.Mathlib.Numerals.{add-one}
 use native.Mathlib.Omega.{arith}
 use lib.ListN.{length}
@@ -39,3 +39,8 @@ row-next k s base n e l₀ l ys el ee fit ey =
     windowed-lent k (base + n * s) e l ys ee fit ey
     ∙ ap (segment k (λ t. base + n * s + t)) el
     ∙ sym (ap (λ (i : ℕ). steps (λ j. segment k (tapFrom vertical s base j)) 0 i l₀) (add-one n) ∙ steps-suc (λ j. segment k (tapFrom vertical s base j)) n l₀)
+
+-- one row is one window
+pub from-one : (k : Kernel) (base : ℕ) (l : List ℕ) → edgeFrom vertical k 8 base 1 l ≡ segment k (λ t. base + t) l
+unfolding edgeFrom steps
+from-one k base l = ap (λ (b : ℕ). segment k (λ t. b + t) l) (add-zero base)

@@ -7,7 +7,7 @@ ghost use Rattle.frame.specs.Entries.{anyOf};
 ghost use Rattle.frame.specs.Pass.{isB};
 
 // Some byte is above `most`. No branch in the loop, so that it is done several bytes at a time.
-pub fn any_above(list: &[u8], most: u8) -> bool
+pub(crate) fn any_above(list: &[u8], most: u8) -> bool
     ensures { λ r. ⌜ r ≡ anyOf (ltb most) (now (list .entry)) ⌝ }
 {
     let mut found = false;
@@ -20,7 +20,7 @@ pub fn any_above(list: &[u8], most: u8) -> bool
 }
 
 // 6 in the inter pass: a mode above 4, a reference above 3 or an inter mode above 5.
-pub fn bad_entries(modes: &[u8], references: &[u8], inter_modes: &[u8]) -> bool
+pub(crate) fn bad_entries(modes: &[u8], references: &[u8], inter_modes: &[u8]) -> bool
     ensures { λ r. ⌜ r ≡ (anyOf badMode (now (modes .entry)) || anyOf badReference (now (references .entry)) || anyOf badInterMode (now («inter_modes» .entry))) ⌝ }
 {
     let mode = any_above(modes, 4);
@@ -30,20 +30,20 @@ pub fn bad_entries(modes: &[u8], references: &[u8], inter_modes: &[u8]) -> bool
 }
 
 // Lists of these lengths are as long as the first.
-pub fn alike3(a: usize, b: usize, c: usize) -> bool
+pub(crate) fn alike3(a: usize, b: usize, c: usize) -> bool
     ensures { λ r. ⌜ r ≡ (eqb b a && eqb c a) ⌝ }
 {
     (b == a) & (c == a)
 }
 
-pub fn alike5(a: usize, b: usize, c: usize, d: usize, e: usize) -> bool
+pub(crate) fn alike5(a: usize, b: usize, c: usize, d: usize, e: usize) -> bool
     ensures { λ r. ⌜ r ≡ (eqb b a && eqb c a && eqb d a && eqb e a) ⌝ }
 {
     (b == a) & (c == a) & (d == a) & (e == a)
 }
 
 // The mode is B or the flag is set. A byte above 4 counts as B.
-pub fn inner_edges(mode: u8, flag: u8) -> bool
+pub(crate) fn inner_edges(mode: u8, flag: u8) -> bool
     ensures { λ r. ⌜ r ≡ (isB (modeOf mode) || not (eqb flag 0)) ⌝ }
 {
     (3 < mode) | (flag != 0)

@@ -14,7 +14,7 @@ ghost use lib.ListN.{length};
 ghost use Rattle.kernels.specs.Segment.{simpleSegment, subblockFilter, mbFilter};
 ghost use Rattle.frame.specs.Edges.{horizontal};
 ghost use Rattle.frame.specs.EdgeCode.{edgeFrom};
-ghost use Rattle.frame.specs.Runs.{rowsAt, storeSix, storeFour, SignedInner};
+ghost use Rattle.frame.specs.Runs.{rowsAt, storeSix, storeFour, SignedInner, normalKernel};
 
 fn gather_rows16(plane: &[u8], stride: usize, at: usize) -> [[i16; 16]; 8]
     requires { ⌜ at + 7 * stride + 16 ≤ length (now plane) ⌝ }
@@ -152,76 +152,122 @@ fn scatter_four8(plane: &mut [u8], stride: usize, at: usize, rows: [[i16; 8]; 8]
     scatter8(plane, a5, r5);
 }
 
+// A normal edge of 16 samples: a macroblock's, or an inner one. It is the one caller of the rows' gathering and of their run, so the compiler can put both here.
+fn h_run16(
+    plane: &mut [u8],
+    stride: usize,
+    at: usize,
+    hev_threshold: u8,
+    interior_limit: u8,
+    edge_limit: u8,
+    mb_edge: bool,
+)
+    requires { ⌜ at + 7 * stride + 16 ≤ length (now plane) ⌝ }
+    requires { ⌜ 16 ≤ stride ⌝ }
+    ensures { λ _. ⌜ now (plane .exit) ≡ edgeFrom horizontal (normalKernel «mb_edge» «hev_threshold» «interior_limit» «edge_limit») stride at 16 (now (plane .entry)) ⌝ }
+{
+    let taps = gather_rows16(plane, stride, at);
+    let rows = normal_filter_run16(taps, hev_threshold, interior_limit, edge_limit, mb_edge);
+    if mb_edge {
+        scatter_six16(plane, stride, at, rows);
+    } else {
+        scatter_four16(plane, stride, at, rows);
+    }
+}
+
+// A normal edge of 8 samples: a macroblock's, or an inner one. It is the one caller of the rows' gathering and of their run, so the compiler can put both here.
+fn h_run8(
+    plane: &mut [u8],
+    stride: usize,
+    at: usize,
+    hev_threshold: u8,
+    interior_limit: u8,
+    edge_limit: u8,
+    mb_edge: bool,
+)
+    requires { ⌜ at + 7 * stride + 8 ≤ length (now plane) ⌝ }
+    requires { ⌜ 8 ≤ stride ⌝ }
+    ensures { λ _. ⌜ now (plane .exit) ≡ edgeFrom horizontal (normalKernel «mb_edge» «hev_threshold» «interior_limit» «edge_limit») stride at 8 (now (plane .entry)) ⌝ }
+{
+    let taps = gather_rows8(plane, stride, at);
+    let rows = normal_filter_run8(taps, hev_threshold, interior_limit, edge_limit, mb_edge);
+    if mb_edge {
+        scatter_six8(plane, stride, at, rows);
+    } else {
+        scatter_four8(plane, stride, at, rows);
+    }
+}
+
 // A macroblock's edge of 16 samples.
-pub fn h_mb16(plane: &mut [u8], stride: usize, at: usize, limits: LoopFilterParams)
+pub(crate) fn h_mb16(plane: &mut [u8], stride: usize, at: usize, limits: LoopFilterParams)
     requires { ⌜ at + 7 * stride + 16 ≤ length (now plane) ⌝ }
     requires { ⌜ 16 ≤ stride ⌝ }
     ensures { λ _. ⌜ now (plane .exit) ≡ edgeFrom horizontal (mbFilter (limits .«hev_threshold») (limits .«interior_limit») (limits .«mbedge_limit»)) stride at 16 (now (plane .entry)) ⌝ }
 {
-    let taps = gather_rows16(plane, stride, at);
-    let rows = normal_filter_run16(
-        taps,
+    h_run16(
+        plane,
+        stride,
+        at,
         limits.hev_threshold,
         limits.interior_limit,
         limits.mbedge_limit,
         true,
     );
-    scatter_six16(plane, stride, at, rows);
 }
 
 // A macroblock's edge of 8 samples.
-pub fn h_mb8(plane: &mut [u8], stride: usize, at: usize, limits: LoopFilterParams)
+pub(crate) fn h_mb8(plane: &mut [u8], stride: usize, at: usize, limits: LoopFilterParams)
     requires { ⌜ at + 7 * stride + 8 ≤ length (now plane) ⌝ }
     requires { ⌜ 8 ≤ stride ⌝ }
     ensures { λ _. ⌜ now (plane .exit) ≡ edgeFrom horizontal (mbFilter (limits .«hev_threshold») (limits .«interior_limit») (limits .«mbedge_limit»)) stride at 8 (now (plane .entry)) ⌝ }
 {
-    let taps = gather_rows8(plane, stride, at);
-    let rows = normal_filter_run8(
-        taps,
+    h_run8(
+        plane,
+        stride,
+        at,
         limits.hev_threshold,
         limits.interior_limit,
         limits.mbedge_limit,
         true,
     );
-    scatter_six8(plane, stride, at, rows);
 }
 
 // An inner edge of 16 samples.
-pub fn h_sub16(plane: &mut [u8], stride: usize, at: usize, limits: LoopFilterParams)
+pub(crate) fn h_sub16(plane: &mut [u8], stride: usize, at: usize, limits: LoopFilterParams)
     requires { ⌜ at + 7 * stride + 16 ≤ length (now plane) ⌝ }
     requires { ⌜ 16 ≤ stride ⌝ }
     ensures { λ _. ⌜ now (plane .exit) ≡ edgeFrom horizontal (subblockFilter (limits .«hev_threshold») (limits .«interior_limit») (limits .«sub_bedge_limit»)) stride at 16 (now (plane .entry)) ⌝ }
 {
-    let taps = gather_rows16(plane, stride, at);
-    let rows = normal_filter_run16(
-        taps,
+    h_run16(
+        plane,
+        stride,
+        at,
         limits.hev_threshold,
         limits.interior_limit,
         limits.sub_bedge_limit,
         false,
     );
-    scatter_four16(plane, stride, at, rows);
 }
 
 // An inner edge of 8 samples.
-pub fn h_sub8(plane: &mut [u8], stride: usize, at: usize, limits: LoopFilterParams)
+pub(crate) fn h_sub8(plane: &mut [u8], stride: usize, at: usize, limits: LoopFilterParams)
     requires { ⌜ at + 7 * stride + 8 ≤ length (now plane) ⌝ }
     requires { ⌜ 8 ≤ stride ⌝ }
     ensures { λ _. ⌜ now (plane .exit) ≡ edgeFrom horizontal (subblockFilter (limits .«hev_threshold») (limits .«interior_limit») (limits .«sub_bedge_limit»)) stride at 8 (now (plane .entry)) ⌝ }
 {
-    let taps = gather_rows8(plane, stride, at);
-    let rows = normal_filter_run8(
-        taps,
+    h_run8(
+        plane,
+        stride,
+        at,
         limits.hev_threshold,
         limits.interior_limit,
         limits.sub_bedge_limit,
         false,
     );
-    scatter_four8(plane, stride, at, rows);
 }
 
 // The simple filter's edge of 16 samples.
-pub fn h_simple(plane: &mut [u8], stride: usize, at: usize, edge: u8)
+pub(crate) fn h_simple(plane: &mut [u8], stride: usize, at: usize, edge: u8)
     requires { ⌜ at + 3 * stride + 16 ≤ length (now plane) ⌝ }
     requires { ⌜ 16 ≤ stride ⌝ }
     ensures { λ _. ⌜ now (plane .exit) ≡ edgeFrom horizontal (simpleSegment edge) stride at 16 (now (plane .entry)) ⌝ }

@@ -15,3 +15,4 @@ mod simple;
 mod step;
 mod taps;
 mod vertical;
+pub mod windows;

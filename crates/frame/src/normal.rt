@@ -122,7 +122,7 @@ fn inner_horizontal8(
     }
 }
 
-pub fn luma(
+pub(crate) fn luma(
     plane: &mut [u8],
     stride: usize,
     corner: usize,
@@ -140,7 +140,7 @@ pub fn luma(
     inner_horizontal16(plane, stride, corner, limits, inside);
 }
 
-pub fn chroma(
+pub(crate) fn chroma(
     plane: &mut [u8],
     stride: usize,
     corner: usize,

@@ -106,7 +106,7 @@ fn grant(n: usize, start: usize, allowance: usize) -> PassPlan
 }
 
 // Zero columns or rows is answered first, nothing done, next start 0. `bad` says whether 6 holds.
-pub fn plan_pass(
+pub(crate) fn plan_pass(
     y_len: usize,
     u_len: usize,
     v_len: usize,

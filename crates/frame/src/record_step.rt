@@ -126,7 +126,7 @@ fn record_inner_edges(mb: MacroblockModes) -> bool
 }
 
 // The key pass's step of macroblock m, by its record.
-pub fn key_step(
+pub(crate) fn key_step(
     y: &mut [u8],
     u: &mut [u8],
     v: &mut [u8],
@@ -144,7 +144,7 @@ pub fn key_step(
 }
 
 // The inter pass's step.
-pub fn inter_step(
+pub(crate) fn inter_step(
     y: &mut [u8],
     u: &mut [u8],
     v: &mut [u8],
@@ -162,7 +162,7 @@ pub fn inter_step(
 }
 
 // What a pass over so many records is to do. No record stands for a byte that 6 refuses.
-pub fn plan_records(
+pub(crate) fn plan_records(
     y_len: usize,
     u_len: usize,
     v_len: usize,

@@ -422,7 +422,7 @@ fn sub_run8(taps: [[i16; 8]; 8], edge: EdgeLimits) -> [[i16; 8]; 8]
     [r0, o1, o2, o3, o4, o5, o6, r7]
 }
 
-pub fn normal_filter_run16(
+pub(crate) fn normal_filter_run16(
     taps: [[i16; 16]; 8],
     hev_threshold: u8,
     interior_limit: u8,
@@ -444,7 +444,7 @@ pub fn normal_filter_run16(
     }
 }
 
-pub fn normal_filter_run8(
+pub(crate) fn normal_filter_run8(
     taps: [[i16; 8]; 8],
     hev_threshold: u8,
     interior_limit: u8,
@@ -466,7 +466,7 @@ pub fn normal_filter_run8(
     }
 }
 
-pub fn simple_run(taps: [[i16; 16]; 4], edge_limit: u8) -> [[i16; 16]; 4]
+pub(crate) fn simple_run(taps: [[i16; 16]; 4], edge_limit: u8) -> [[i16; 16]; 4]
     requires { ⌜ SignedRows 4 16 taps ⌝ }
     ensures { λ r. ⌜ r ≡ runOfFour (simpleSegment «edge_limit») 16 taps ⌝ }
 {

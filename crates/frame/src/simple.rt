@@ -53,7 +53,7 @@ fn inner_horizontal(plane: &mut [u8], stride: usize, first: usize, edge: u8, ins
     }
 }
 
-pub fn luma(
+pub(crate) fn luma(
     plane: &mut [u8],
     stride: usize,
     corner: usize,

@@ -100,7 +100,7 @@ fn filter_with(
 }
 
 // Macroblock m at its level, with its inner edges or without.
-pub fn filter_macroblock(
+pub(crate) fn filter_macroblock(
     y: &mut [u8],
     u: &mut [u8],
     v: &mut [u8],

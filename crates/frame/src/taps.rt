@@ -21,7 +21,7 @@ fn s2u16(v: i16) -> u8
     (v + 128) as u8
 }
 
-pub fn gather16(plane: &[u8], at: usize) -> [i16; 16]
+pub(crate) fn gather16(plane: &[u8], at: usize) -> [i16; 16]
     requires { ⌜ at + 16 ≤ length (now plane) ⌝ }
     ensures { λ r. ⌜ r ≡ rowAt 16 at (now (plane .entry)) ⌝ }
 {
@@ -32,7 +32,7 @@ pub fn gather16(plane: &[u8], at: usize) -> [i16; 16]
     row
 }
 
-pub fn gather8(plane: &[u8], at: usize) -> [i16; 8]
+pub(crate) fn gather8(plane: &[u8], at: usize) -> [i16; 8]
     requires { ⌜ at + 8 ≤ length (now plane) ⌝ }
     ensures { λ r. ⌜ r ≡ rowAt 8 at (now (plane .entry)) ⌝ }
 {
@@ -43,7 +43,7 @@ pub fn gather8(plane: &[u8], at: usize) -> [i16; 8]
     row
 }
 
-pub fn scatter16(plane: &mut [u8], at: usize, row: [i16; 16])
+pub(crate) fn scatter16(plane: &mut [u8], at: usize, row: [i16; 16])
     requires { ⌜ at + 16 ≤ length (now plane) ⌝ }
     requires { ⌜ SignedRow 16 row ⌝ }
     ensures { λ _. ⌜ now (plane .exit) ≡ storeRow 16 at row (now (plane .entry)) ⌝ }
@@ -53,7 +53,7 @@ pub fn scatter16(plane: &mut [u8], at: usize, row: [i16; 16])
     }
 }
 
-pub fn scatter8(plane: &mut [u8], at: usize, row: [i16; 8])
+pub(crate) fn scatter8(plane: &mut [u8], at: usize, row: [i16; 8])
     requires { ⌜ at + 8 ≤ length (now plane) ⌝ }
     requires { ⌜ SignedRow 8 row ⌝ }
     ensures { λ _. ⌜ now (plane .exit) ≡ storeRow 8 at row (now (plane .entry)) ⌝ }

@@ -11,7 +11,13 @@ ghost use Rattle.frame.specs.Edges.{vertical};
 ghost use Rattle.frame.specs.EdgeCode.{edgeFrom};
 
 // A macroblock's left border, from its p3 in the first of `rows` rows.
-pub fn v_mb(plane: &mut [u8], stride: usize, at: usize, rows: usize, limits: LoopFilterParams)
+pub(crate) fn v_mb(
+    plane: &mut [u8],
+    stride: usize,
+    at: usize,
+    rows: usize,
+    limits: LoopFilterParams,
+)
     requires { ⌜ at + (rows - 1) * stride + 8 ≤ length (now plane) ⌝ }
     ensures { λ _. ⌜ now (plane .exit) ≡ edgeFrom vertical (mbFilter (limits .«hev_threshold») (limits .«interior_limit») (limits .«mbedge_limit»)) stride at rows (now (plane .entry)) ⌝ }
 {
@@ -26,7 +32,13 @@ pub fn v_mb(plane: &mut [u8], stride: usize, at: usize, rows: usize, limits: Loo
 }
 
 // An edge between subblocks, from its p3 in the first of `rows` rows.
-pub fn v_sub(plane: &mut [u8], stride: usize, at: usize, rows: usize, limits: LoopFilterParams)
+pub(crate) fn v_sub(
+    plane: &mut [u8],
+    stride: usize,
+    at: usize,
+    rows: usize,
+    limits: LoopFilterParams,
+)
     requires { ⌜ at + (rows - 1) * stride + 8 ≤ length (now plane) ⌝ }
     ensures { λ _. ⌜ now (plane .exit) ≡ edgeFrom vertical (subblockFilter (limits .«hev_threshold») (limits .«interior_limit») (limits .«sub_bedge_limit»)) stride at rows (now (plane .entry)) ⌝ }
 {
@@ -41,7 +53,7 @@ pub fn v_sub(plane: &mut [u8], stride: usize, at: usize, rows: usize, limits: Lo
 }
 
 // Any vertical edge of the simple filter, from its p1 in the first of 16 rows.
-pub fn v_simple(plane: &mut [u8], stride: usize, at: usize, edge: u8)
+pub(crate) fn v_simple(plane: &mut [u8], stride: usize, at: usize, edge: u8)
     requires { ⌜ at + 15 * stride + 4 ≤ length (now plane) ⌝ }
     ensures { λ _. ⌜ now (plane .exit) ≡ edgeFrom vertical (simpleSegment edge) stride at 16 (now (plane .entry)) ⌝ }
 {

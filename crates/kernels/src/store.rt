@@ -52,7 +52,7 @@ fn put6(seg: &mut [u8], at: usize, a: u8, b: u8, c: u8, d: u8, e: u8, f: u8)
     seg[at + 5] = f;
 }
 
-pub fn cut2(seg: &mut [u8], at: usize, a: i64, b: i64)
+pub(crate) fn cut2(seg: &mut [u8], at: usize, a: i64, b: i64)
     requires { ⌜ at + 2 ≤ length (now seg) ⌝ }
     ensures { λ _. ⌜ now (seg .exit) ≡ set (set (now (seg .entry)) at (win.cut a)) (at + 1) (win.cut b) ⌝ }
 {
@@ -63,7 +63,7 @@ pub fn cut2(seg: &mut [u8], at: usize, a: i64, b: i64)
     }
 }
 
-pub fn cut4(seg: &mut [u8], at: usize, a: i64, b: i64, c: i64, d: i64)
+pub(crate) fn cut4(seg: &mut [u8], at: usize, a: i64, b: i64, c: i64, d: i64)
     requires { ⌜ at + 4 ≤ length (now seg) ⌝ }
     ensures { λ _. ⌜ now (seg .exit) ≡ set (set (set (set (now (seg .entry)) at (win.cut a)) (at + 1) (win.cut b)) (at + 2) (win.cut c)) (at + 3) (win.cut d) ⌝ }
 {
@@ -74,7 +74,7 @@ pub fn cut4(seg: &mut [u8], at: usize, a: i64, b: i64, c: i64, d: i64)
     }
 }
 
-pub fn cut6(seg: &mut [u8], at: usize, a: i64, b: i64, c: i64, d: i64, e: i64, f: i64)
+pub(crate) fn cut6(seg: &mut [u8], at: usize, a: i64, b: i64, c: i64, d: i64, e: i64, f: i64)
     requires { ⌜ at + 6 ≤ length (now seg) ⌝ }
     ensures { λ _. ⌜ now (seg .exit) ≡ set (set (set (set (set (set (now (seg .entry)) at (win.cut a)) (at + 1) (win.cut b)) (at + 2) (win.cut c)) (at + 3) (win.cut d)) (at + 4) (win.cut e)) (at + 5) (win.cut f) ⌝ }
 {

@@ -21,14 +21,14 @@ fn near(a: u8, b: u8, limit: u8) -> bool
 }
 
 // The test of simple_segment, times two: y / 2 <= z is y <= 2 * z + 1.
-pub fn simple_yes(edge: u8, p1: u8, p0: u8, q0: u8, q1: u8) -> bool
+pub(crate) fn simple_yes(edge: u8, p1: u8, p0: u8, q0: u8, q1: u8) -> bool
     ensures { λ r. ⌜ r ≡ spec.simpleYes edge p1 p0 q0 q1 ⌝ }
 {
     apart(p0, q0) as u64 * 4 + apart(p1, q1) as u64 <= 2 * (edge as u64) + 1
 }
 
 // What filter_yes tests beyond simple_yes.
-pub fn neighbours_near(
+pub(crate) fn neighbours_near(
     interior: u8,
     p3: u8,
     p2: u8,
@@ -50,7 +50,7 @@ pub fn neighbours_near(
 }
 
 // The negation of hev.
-pub fn low_variance(threshold: u8, p1: u8, p0: u8, q0: u8, q1: u8) -> bool
+pub(crate) fn low_variance(threshold: u8, p1: u8, p0: u8, q0: u8, q1: u8) -> bool
     ensures { λ r. ⌜ r ≡ win.lowVariance threshold p1 p0 q0 q1 ⌝ }
 {
     near(p1, p0, threshold) & near(q1, q0, threshold)
@@ -75,14 +75,14 @@ fn clamp(v: i64) -> i64
     }
 }
 
-pub fn at_most_123(v: i64) -> i64
+pub(crate) fn at_most_123(v: i64) -> i64
     ensures { λ r. ⌜ r ≡ win.atMost123 v ⌝ }
 {
     if v < 123 { v } else { 123 }
 }
 
 // a of common_adjust, before it is divided.
-pub fn filter_value(outer: bool, p1: u8, p0: u8, q0: u8, q1: u8) -> i64
+pub(crate) fn filter_value(outer: bool, p1: u8, p0: u8, q0: u8, q1: u8) -> i64
     ensures { λ r. ⌜ r ≡ spec.filterValue outer (num.u2s p1) (num.u2s p0) (num.u2s q0) (num.u2s q1) ⌝ }
 {
     let step = 3 * difference(q0, p0);

@@ -56,7 +56,13 @@ pub extern "C" fn vp8lf_subblock_filter(
     ensures { λ r. ⌜ r ≡ numberOf (windowAnswer (subblockFilter «hev_threshold» «interior_limit» «edge_limit») (now (seg .entry)) base) ⌝ }
     ensures { λ _. ⌜ now (seg .exit) ≡ windowed (subblockFilter «hev_threshold» «interior_limit» «edge_limit») (now (seg .entry)) base ⌝ }
 {
-    number(kernels::segments::subblock_filter(hev_threshold, interior_limit, edge_limit, seg, base))
+    number(frame::windows::subblock_filter_window(
+        hev_threshold,
+        interior_limit,
+        edge_limit,
+        seg,
+        base,
+    ))
 }
 
 #[no_mangle]
@@ -70,5 +76,5 @@ pub extern "C" fn vp8lf_mb_filter(
     ensures { λ r. ⌜ r ≡ numberOf (windowAnswer (mbFilter «hev_threshold» «interior_limit» «edge_limit») (now (seg .entry)) base) ⌝ }
     ensures { λ _. ⌜ now (seg .exit) ≡ windowed (mbFilter «hev_threshold» «interior_limit» «edge_limit») (now (seg .entry)) base ⌝ }
 {
-    number(kernels::segments::mb_filter(hev_threshold, interior_limit, edge_limit, seg, base))
+    number(frame::windows::mb_filter_window(hev_threshold, interior_limit, edge_limit, seg, base))
 }

@@ -12,3 +12,4 @@ pub mod Judgements
 pub mod Endings
 pub mod FoldLaws
 pub mod CountLaws
+pub mod EqualSums

@@ -32,7 +32,7 @@ pub struct Setup {
 }
 
 // Either pass, from start 0.
-pub fn run_pass(
+pub(crate) fn run_pass(
     ty: &mut [u8],
     tu: &mut [u8],
     tv: &mut [u8],
@@ -90,7 +90,7 @@ fn settings_at(config: FrameFilterConfig, level: u8, sharpness: u8) -> FrameFilt
 }
 
 // The candidate's planes in the grid of the scratch planes: the unfiltered copy, and but for level 0 one whole pass.
-pub fn make_candidate(
+pub(crate) fn make_candidate(
     y: &[u8],
     u: &[u8],
     v: &[u8],
@@ -192,7 +192,7 @@ fn score<'s>(
 }
 
 // A turn: a candidate is scored and taken if it is better, or passed over.
-pub fn try_candidate<'s>(
+pub(crate) fn try_candidate<'s>(
     y: &[u8],
     u: &[u8],
     v: &[u8],

@@ -31,7 +31,7 @@ fn copy_rows(source: &[u8], into: &mut [u8], stride: usize, w: usize, n: usize)
     }
 }
 
-pub fn copy_grid(
+pub(crate) fn copy_grid(
     y: &[u8],
     u: &[u8],
     v: &[u8],

@@ -13,7 +13,7 @@ pub enum Judged {
     Accepted,
 }
 
-pub fn pass_number(answer: PassAnswer) -> u8
+pub(crate) fn pass_number(answer: PassAnswer) -> u8
     ensures { λ r. ⌜ r ≡ numberOf (passOutcome answer) ⌝ }
 {
     match answer {
@@ -27,7 +27,7 @@ pub fn pass_number(answer: PassAnswer) -> u8
     }
 }
 
-pub fn sum_number(answer: SumAnswer) -> u8
+pub(crate) fn sum_number(answer: SumAnswer) -> u8
     ensures { λ r. ⌜ r ≡ numberOf (sumOutcome answer) ⌝ }
 {
     match answer {
@@ -42,7 +42,7 @@ pub fn sum_number(answer: SumAnswer) -> u8
 }
 
 // 1, 2, 3 of the planes, 3 of the scratch planes, 8, 9, 6, 10.
-pub fn judge(pass: u8, sum: u8) -> Judged
+pub(crate) fn judge(pass: u8, sum: u8) -> Judged
     ensures { λ r. ⌜ r ≡ judgedOf pass sum ⌝ }
 {
     if sum == 1 {

@@ -4,5 +4,6 @@ mod candidates;
 mod copies;
 mod judge;
 pub mod search;
+pub mod source;
 pub mod sums;
 mod turns;

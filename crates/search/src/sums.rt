@@ -13,27 +13,27 @@ ghost use Rattle.search.specs.Answers.{sumOutcome};
 ghost use Rattle.search.specs.SumCode.{fitting, strideOff, shortOf, Bounded, Small, Summable};
 
 // The square of the difference of two samples.
-fn squared_difference(a: u8, b: u8) -> u64
+fn squared_difference(a: u8, b: u8) -> u32
     ensures { λ r. ⌜ (r ≡ squared a b) × (r ≤ 65025) ⌝ }
 {
     if a < b {
         let d = b - a;
-        let e = d as u64;
+        let e = d as u32;
         return e * e;
     }
     let d = a - b;
-    let e = d as u64;
+    let e = d as u32;
     e * e
 }
 
-// The sum over w samples of a row.
+// The sum over w samples of a row. 65,536 squares of a byte fit 32 bits, of which a vector register holds twice as many as of 64.
 fn row_sum(a: &[u8], i: usize, b: &[u8], j: usize, w: usize) -> u64
     requires { ⌜ i + w ≤ length (now a) ⌝ }
     requires { ⌜ j + w ≤ length (now b) ⌝ }
     requires { ⌜ w ≤ 65536 ⌝ }
     ensures { λ r. ⌜ r ≡ rowSum (now (a .entry)) i (now (b .entry)) j w ⌝ }
 {
-    let mut sum: u64 = 0;
+    let mut sum: u32 = 0;
     let mut k = 0;
     while k < w {
         let p = i + k;
@@ -41,7 +41,7 @@ fn row_sum(a: &[u8], i: usize, b: &[u8], j: usize, w: usize) -> u64
         sum += squared_difference(a[p], b[q]);
         k += 1;
     }
-    sum
+    sum as u64
 }
 
 // The sum over h rows, added to a start; 10 where that is 2 ^ 64 or more.

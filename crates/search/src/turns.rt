@@ -23,7 +23,7 @@ pub struct Turn {
 }
 
 // The lesser of its own and 7.
-pub fn base_sharpness(own: u8) -> u8
+pub(crate) fn base_sharpness(own: u8) -> u8
     ensures { λ r. ⌜ r ≡ min own 7 ⌝ }
 {
     if own < 7 { own } else { 7 }
@@ -51,7 +51,7 @@ fn is_near(winner: u8, level: u8) -> bool
 }
 
 // Turn i: a coarse level; a level near the winner but the best of the moment; another sharpness unless the best level is 0.
-pub fn next_turn(base: u8, i: usize, found: Found) -> Turn
+pub(crate) fn next_turn(base: u8, i: usize, found: Found) -> Turn
     requires { ⌜ i < 88 ⌝ }
     ensures { λ r. ⌜ r ≡ turnOf base i found ⌝ }
 {
@@ -90,7 +90,7 @@ fn counted(level: u8, count: usize) -> usize
 }
 
 // Only a strictly smaller sum replaces.
-pub fn take(found: Found, level: u8, sharpness: u8, sum: u64) -> Found
+pub(crate) fn take(found: Found, level: u8, sharpness: u8, sum: u64) -> Found
     requires { ⌜ found .«count» < 100 ⌝ }
     ensures { λ r. ⌜ r ≡ taken found level sharpness sum ⌝ }
 {
@@ -114,7 +114,7 @@ pub fn take(found: Found, level: u8, sharpness: u8, sum: u64) -> Found
 }
 
 // The winner is the best of the coarse levels.
-pub fn mark(i: usize, found: Found) -> Found
+pub(crate) fn mark(i: usize, found: Found) -> Found
     ensures { λ r. ⌜ r ≡ marked i found ⌝ }
 {
     if i < 16 {

@@ -1,13 +1,15 @@
-//! Times both passes and the search of the library against the Rust's on the recorded frames for timing, in one run and in turn, and
-//! prints each smallest time of the library as a part of the Rust's smallest time.
+//! Times both passes and the search of the library against the Rust's on the recorded frames for timing, in one run and
+//! in turn, and prints each smallest time of the library as a part of the Rust's smallest time; then how the time of a
+//! pass grows with the grid.
 //!
 //! The level is forced: every macroblock has it, whatever its segment, reference and mode. "Rows" halts after each row
 //! of macroblocks.
 
+mod growth;
 mod search;
 
 use entries::bytes::Records;
-use entries::{Layout, Lists};
+use entries::{Layout, Lists, Pass};
 use film::Frame;
 use oracle::{FrameFilterConfig, KeyframePlanes};
 use std::fmt;
@@ -28,11 +30,23 @@ fn main() -> ExitCode {
         return ExitCode::from(2);
     };
     let frames = film::bench();
+    passes(&frames, repetitions);
+    for frame in &frames {
+        for simple in [false, true] {
+            search::compare(frame, simple, repetitions.min(5));
+        }
+    }
+    growth::compare(frames.iter().find(|frame| frame.config().key_frame).expect("a key frame"), repetitions);
+    ExitCode::SUCCESS
+}
+
+/// Prints the table of the passes and the geometric means of its ratios.
+fn passes(frames: &[Frame], repetitions: usize) {
     let (columns, rows) = (frames[0].columns(), frames[0].rows());
     println!("{} x {} samples, the least of {repetitions} repetitions", 16 * columns, 16 * rows);
     println!("{:<34} {:>9} {:>8} {:>8}", "pass, filter, level, inner edges", "Rust", "library", "in rows");
     let mut ratios = Vec::new();
-    for frame in &frames {
+    for frame in frames {
         for simple in [false, true] {
             for level in LEVELS {
                 for inner in [Inner::All, Inner::Coded, Inner::Few] {
@@ -54,12 +68,6 @@ fn main() -> ExitCode {
         };
         println!("{:<34} {:>9} {:>8.3} {:>8.3}", format!("geometric mean, {name}"), "", of(0), of(1));
     }
-    for frame in &frames {
-        for simple in [false, true] {
-            search::compare(frame, simple, repetitions.min(5));
-        }
-    }
-    ExitCode::SUCCESS
 }
 
 fn geometric_mean(ratios: impl Iterator<Item = f64>) -> f64 {
@@ -158,11 +166,12 @@ impl Case<'_> {
     fn run_library(&self, planes: &mut KeyframePlanes, lists: &Lists, allowance: usize) {
         let KeyframePlanes { y, u, v, y_stride, uv_stride, mb_cols, mb_rows } = planes;
         let layout = Layout { columns: *mb_cols, rows: *mb_rows, y_stride: *y_stride, uv_stride: *uv_stride };
-        let pass = if self.key { entries::filter_frame } else { entries::filter_inter_frame };
+        let pass = if self.key { Pass::Key } else { Pass::Inter };
         let (mut start, mut count) = (0, 0);
         while start < lists.modes.len() {
             let mut next = start;
-            let answer = pass([y, u, v], &layout, lists, &self.config, start, allowance, &mut count, &mut next);
+            let (planes, config) = ([&mut y[..], u, v], &self.config);
+            let answer = entries::filter(pass, planes, &layout, lists, config, start, allowance, &mut count, &mut next);
             assert!(answer == 0 && next > start, "{self}: the call is accepted and goes on");
             start = next;
         }

@@ -6,6 +6,8 @@ use entries::bytes::{self, Records};
 use oracle::{FrameFilterConfig, KeyframePlanes, loop_filter};
 use std::fmt;
 
+pub use entries::Pass;
+
 /// y, u and v.
 pub type Planes = [Vec<u8>; 3];
 
@@ -15,22 +17,7 @@ pub const SIDE: [usize; 3] = [16, 8, 8];
 /// What the out-parameters and the numbers beside them hold before a call.
 const UNTOUCHED: usize = 0x5A5A_5A5A_5A5A_5A5A;
 
-#[derive(Clone, Copy, Debug, PartialEq)]
-pub enum Pass {
-    Key,
-    Inter,
-}
-
 pub const PASSES: [Pass; 2] = [Pass::Key, Pass::Inter];
-
-impl Pass {
-    pub fn entry(self) -> &'static str {
-        match self {
-            Pass::Key => "filter_frame",
-            Pass::Inter => "filter_inter_frame",
-        }
-    }
-}
 
 /// The lists of a picture: modes, segments, flags, references, inter modes.
 pub type ByteLists = [Vec<u8>; 5];
@@ -206,13 +193,10 @@ impl Call {
         let lists = Lists { modes: list(), segments: list(), flags: list(), references: list(), inter_modes: list() };
         let mut out = [UNTOUCHED; 5];
         let [_, count, _, next, _] = &mut out;
-        let entry = match self.pass {
-            Pass::Key => ffi::filter_frame,
-            Pass::Inter => ffi::filter_inter_frame,
-        };
         let answer = guard::calling(self, || {
             let planes = [&mut *y, &mut *u, &mut *v];
-            entry(planes, &self.layout, &lists, &self.config, self.start, self.allowance, count, next)
+            let Call { pass, layout, config, start, allowance, .. } = self;
+            ffi::filter(*pass, planes, layout, &lists, config, *start, *allowance, count, next)
         });
         let Lists { modes, segments, flags, references, inter_modes } = lists;
         Outcome {

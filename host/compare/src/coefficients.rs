@@ -3,6 +3,7 @@
 
 use crate::guard::{self, Guarded, SIDES};
 use crate::random::Random;
+use crate::soak::Draw;
 use crate::tally::{Kind, Tally};
 use crate::{Plan, ffi};
 use oracle::MbCoeffs;
@@ -81,6 +82,34 @@ fn records(random: &mut Random, memory: &mut Guarded, kind: &mut Kind) -> Result
     compare("in y2 and v", &two)
 }
 
+/// A call on a list of any length with some numbers set. The Rust answers for one of 400, the number of a record.
+pub fn drawer() -> Draw {
+    let mut memory = Guarded::new(LONGEST * size_of::<i16>());
+    Box::new(move |random, calls| {
+        let any = random.below(LONGEST + 1);
+        let len = random.one_of(&[0, 1, 400, 400, any, any]);
+        let mut list = vec![0; len];
+        for _ in 0..if len > 0 { random.one_of(&[0, 0, 1, 1, 2, 400]) } else { 0 } {
+            list[random.below(len)] = random.one_of(&SET);
+        }
+        let expected = match len {
+            400 => oracle::mb_has_coeffs(&record(&list)),
+            _ => list.iter().any(|number| *number != 0),
+        };
+        calls.add("mb_has_coeffs", 0);
+        check(memory.lend(random.one_of(&SIDES), &list), expected)
+    })
+}
+
+/// The record whose 400 numbers are these.
+fn record(list: &[i16]) -> MbCoeffs {
+    let mut record = MbCoeffs::default();
+    let MbCoeffs { y2, y, u, v, .. } = &mut record;
+    let parts = [&mut y2[..], y.as_flattened_mut(), u.as_flattened_mut(), v.as_flattened_mut()];
+    parts.into_iter().flatten().zip(list).for_each(|(place, number)| *place = *number);
+    record
+}
+
 fn flatten(coeffs: &MbCoeffs) -> Vec<i16> {
     [&coeffs.y2[..], coeffs.y.as_flattened(), coeffs.u.as_flattened(), coeffs.v.as_flattened()].concat()
 }
@@ -88,11 +117,18 @@ fn flatten(coeffs: &MbCoeffs) -> Vec<i16> {
 fn same(kind: &mut Kind, class: &str, list: &[i16], expected: bool) -> Result<(), String> {
     kind.add_cases(1);
     kind.add_class(class, 1);
+    check(list, expected)
+}
+
+fn check(list: &[i16], expected: bool) -> Result<(), String> {
     let what = format_args!("  mb_has_coeffs on a list of {} numbers", list.len());
     let answer = guard::calling(&what, || ffi::mb_has_coeffs(list));
     if answer == expected {
         return Ok(());
     }
     let set: Vec<(usize, i16)> = list.iter().copied().enumerate().filter(|(_, number)| *number != 0).collect();
-    Err(format!("a list of {} numbers, all 0 but {set:?} (place, number): the library answers {answer}", list.len()))
+    Err(format!(
+        "mb_has_coeffs on a list of {} numbers, all 0 but {set:?} (place, number): expected {expected}, library {answer}",
+        list.len()
+    ))
 }

@@ -4,6 +4,7 @@ use crate::ffi::{self, Layout};
 use crate::passes::rounds;
 use crate::random::Random;
 use crate::reach::reached;
+use crate::soak::Calls;
 use crate::tally::{Kind, Tally};
 use crate::{Plan, guard};
 
@@ -27,17 +28,29 @@ pub fn compare(plan: &Plan, tally: &mut Tally) {
     let times = if plan.long { 500_000 } else { 10_000 };
     tally.run("final_rows, any arguments", &CLASSES, |kind| {
         rounds(plan, times, kind, |random, _, kind| {
-            const SIZES: [usize; 12] = [0, 1, 2, 3, 80, 1023, 1024, 1025, 65_536, 1 << 32, 1 << 63, usize::MAX];
-            let (columns, rows) = (random.one_of(&SIZES), random.one_of(&SIZES));
-            let layout = any_strides(columns, rows, random);
-            let n = columns.saturating_mul(rows);
-            let any = random.below(n.saturating_add(2).min(1 << 21));
-            let row = random.below(rows.min(1024) + 1).saturating_mul(columns);
-            let boundaries = [row.saturating_sub(1), row, row.saturating_add(1), n, n.saturating_add(1)];
-            let start = random.one_of(&[&boundaries[..], &[0, any, 1 << 32, usize::MAX]].concat());
+            let (layout, start) = any_arguments(random);
             same(&layout, start, rule(&layout, start), kind)
         })
     });
+}
+
+/// A call with any arguments.
+pub fn draw(random: &mut Random, calls: &mut Calls) -> Result<(), String> {
+    let (layout, start) = any_arguments(random);
+    let expected = rule(&layout, start);
+    calls.add("final_rows", expected.err().unwrap_or(0));
+    check(&layout, start, expected)
+}
+
+fn any_arguments(random: &mut Random) -> (Layout, usize) {
+    const SIZES: [usize; 12] = [0, 1, 2, 3, 80, 1023, 1024, 1025, 65_536, 1 << 32, 1 << 63, usize::MAX];
+    let (columns, rows) = (random.one_of(&SIZES), random.one_of(&SIZES));
+    let layout = any_strides(columns, rows, random);
+    let n = columns.saturating_mul(rows);
+    let any = random.below(n.saturating_add(2).min(1 << 21));
+    let row = random.below(rows.min(1024) + 1).saturating_mul(columns);
+    let boundaries = [row.saturating_sub(1), row, row.saturating_add(1), n, n.saturating_add(1)];
+    (layout, random.one_of(&[&boundaries[..], &[0, any, 1 << 32, usize::MAX]].concat()))
 }
 
 /// Zero columns or rows first, then 1, then 7. The strides are not read.
@@ -87,6 +100,10 @@ fn same(layout: &Layout, start: usize, expected: Result<[usize; 2], u8>, kind: &
     kind.add_class(class, 1);
     let inside = layout.columns > 0 && layout.columns <= 1024 && !start.is_multiple_of(layout.columns);
     kind.add_class("within a row", (inside && expected.is_ok()) as u64);
+    check(layout, start, expected)
+}
+
+fn check(layout: &Layout, start: usize, expected: Result<[usize; 2], u8>) -> Result<(), String> {
     let mut out = [UNTOUCHED; 5];
     let [_, luma, _, chroma, _] = &mut out;
     let what = format_args!("  final_rows, {layout:?}, start {start}");

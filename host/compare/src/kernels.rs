@@ -3,6 +3,7 @@
 use crate::guard::{self, Guarded, SIDES, Side};
 use crate::random::Random;
 use crate::shrink::{Cases, shrink, smaller_bytes};
+use crate::soak::Draw;
 use crate::tally::{Kind, Tally};
 use crate::{Plan, ffi};
 use oracle::{loop_filter, opened};
@@ -30,15 +31,16 @@ const NORMAL_CLASSES: [&str; 11] = [
     "variance one above",
 ];
 
+const ENTRIES: [(&str, &[&str], KernelOf); 4] = [
+    ("common_adjust", &ADJUST_CLASSES, |_, random| Kernel::Adjust(random.below(2) == 1)),
+    ("simple_segment", &SIMPLE_CLASSES, |taps, random| Kernel::Simple(Limits::near(taps, random).edge)),
+    ("subblock_filter", &NORMAL_CLASSES, |taps, random| Kernel::Subblock(Limits::near(taps, random))),
+    ("mb_filter", &NORMAL_CLASSES, |taps, random| Kernel::Macroblock(Limits::near(taps, random))),
+];
+
 pub fn compare(plan: &Plan, tally: &mut Tally) {
-    let entries: [(&str, &[&'static str], KernelOf); 4] = [
-        ("common_adjust", &ADJUST_CLASSES, |_, random| Kernel::Adjust(random.below(2) == 1)),
-        ("simple_segment", &SIMPLE_CLASSES, |taps, random| Kernel::Simple(Limits::near(taps, random).edge)),
-        ("subblock_filter", &NORMAL_CLASSES, |taps, random| Kernel::Subblock(Limits::near(taps, random))),
-        ("mb_filter", &NORMAL_CLASSES, |taps, random| Kernel::Macroblock(Limits::near(taps, random))),
-    ];
     let (rounds, cases) = if plan.long { (2_000, 100_000_000) } else { (40, 5_000_000) };
-    for (name, classes, kernel) in entries {
+    for (name, classes, kernel) in ENTRIES {
         tally.run(name, classes, |kind| {
             let mut memory = Guarded::new(LONGEST);
             boundaries(kernel, rounds, &mut Random::new(plan.seed), &mut memory, kind)?;
@@ -53,6 +55,18 @@ pub fn compare(plan: &Plan, tally: &mut Tally) {
             })
         });
     }
+}
+
+/// A call of each kernel, on both sides of memory. One window in four is anywhere and need not fit.
+pub fn drawer() -> Draw {
+    let mut memory = Guarded::new(LONGEST);
+    Box::new(move |random, calls| {
+        ENTRIES.into_iter().try_for_each(|(name, _, kernel)| {
+            let case = if random.below(4) > 0 { Case::fitting(kernel, random) } else { Case::anywhere(kernel, random) };
+            SIDES.iter().for_each(|_| calls.add(name, if case.fits() { 0 } else { ffi::NO_WINDOW }));
+            case.check(&mut memory)
+        })
+    })
 }
 
 /// Chooses a kernel and its limits for the samples p3 to q3.
@@ -273,6 +287,13 @@ impl Case {
         Case::at(kernel, len, base, random)
     }
 
+    /// At any base near the ends of a slice of any length, or far beyond it.
+    fn anywhere(kernel: KernelOf, random: &mut Random) -> Case {
+        let (near, far) = (random.below(LONGEST + 3), random.next() as usize);
+        let base = random.one_of(&[near, near, near, far, 1 << 32 | near, usize::MAX - near]);
+        Case::at(kernel, random.below(LONGEST + 1), base, random)
+    }
+
     fn fits(&self) -> bool {
         let end = self.base.checked_add(self.kernel.width());
         end.is_some_and(|end| end <= self.seg.len)
@@ -343,6 +364,10 @@ impl Case {
     fn compare(&self, memory: &mut Guarded, kind: &mut Kind) -> Result<(), String> {
         kind.add_cases(1);
         self.classify(kind);
+        self.check(memory)
+    }
+
+    fn check(&self, memory: &mut Guarded) -> Result<(), String> {
         if self.differs(memory) {
             return Err(self.difference(memory));
         }

@@ -1,8 +1,10 @@
 //! The level of a macroblock in both passes, under random and extreme settings: every mode, reference and inter mode
 //! up to a few above the last that stands for something, and segments below and above 4.
 
+use crate::pictures::config;
 use crate::random::Random;
 use crate::shrink::{Cases, shrink, smaller_bytes};
+use crate::soak::Calls;
 use crate::tally::{Kind, Tally};
 use crate::{Plan, ffi, settings};
 use entries::bytes;
@@ -56,6 +58,20 @@ pub fn compare(plan: &Plan, tally: &mut Tally) {
             })
         })
     });
+}
+
+/// A call of each under any settings. One byte in eight is any.
+pub fn draw(random: &mut Random, calls: &mut Calls) -> Result<(), String> {
+    let config = config(random);
+    let mut byte = |usual: u8| if random.below(8) == 0 { random.byte() } else { random.below(usual as usize) as u8 };
+    let (segment, mode) = (byte(4), byte(5));
+    let inter = Some(Inter { reference: byte(4), inter_mode: byte(6) });
+    for (entry, inter) in [("calculate_mb_filter_level", None), ("calculate_mb_filter_level_inter", inter)] {
+        let case = Case { config, segment, mode, inter };
+        calls.add(entry, case.answers()[0].0);
+        case.check()?;
+    }
+    Ok(())
 }
 
 /// Every setting of the marks on each of `rounds` random sets of numbers.
@@ -142,6 +158,10 @@ impl Case {
     fn compare(&self, kind: &mut Kind) -> Result<(), String> {
         kind.add_cases(1);
         self.classify(kind);
+        self.check()
+    }
+
+    fn check(&self) -> Result<(), String> {
         if self.segment == 0 && self.rust(None) != self.rust(Some(0)) {
             return Err(format!("the Rust's level without a segment must be that of segment 0\n{self}"));
         }

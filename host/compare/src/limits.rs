@@ -1,5 +1,7 @@
 //! `derive` on every level, sharpness and key mark.
 
+use crate::random::Random;
+use crate::soak::Calls;
 use crate::tally::Tally;
 use crate::{Plan, ffi};
 use oracle::LoopFilterParams;
@@ -9,8 +11,7 @@ pub fn compare(_plan: &Plan, tally: &mut Tally) {
         for level in 0..=255 {
             for sharpness in 0..=255 {
                 for key in [true, false] {
-                    let p = LoopFilterParams::derive(level, sharpness, key);
-                    let rust = [p.interior_limit, p.hev_threshold, p.mbedge_limit, p.sub_bedge_limit];
+                    let rust = rust(level, sharpness, key);
                     kind.add_cases(1);
                     kind.add_class(if key { "key" } else { "inter" }, 1);
                     kind.add_class("limit 255", rust.contains(&255) as u64);
@@ -21,6 +22,18 @@ pub fn compare(_plan: &Plan, tally: &mut Tally) {
         }
         Ok(())
     });
+}
+
+/// A call on any level, sharpness and key mark.
+pub fn draw(random: &mut Random, calls: &mut Calls) -> Result<(), String> {
+    let (level, sharpness, key) = (random.byte(), random.byte(), random.below(2) == 1);
+    calls.add("derive", 0);
+    compare_one(level, sharpness, key, rust(level, sharpness, key))
+}
+
+fn rust(level: u8, sharpness: u8, key: bool) -> [u8; 4] {
+    let p = LoopFilterParams::derive(level, sharpness, key);
+    [p.interior_limit, p.hev_threshold, p.mbedge_limit, p.sub_bedge_limit]
 }
 
 /// The out-parameters hold other numbers before the call, and the bytes beside them stay.

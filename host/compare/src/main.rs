@@ -1,7 +1,8 @@
 //! Calls the Rattle loop filter through its C entries and the oracle side by side.
 //!
 //! The modules in `MODULES` compare one layer each. They run their kinds of cases through [`Tally::run`], which counts
-//! them, prints what differs, and fails on a kind or a class that did not occur.
+//! them, prints what differs, and fails on a kind or a class that did not occur. [`soak`] draws from the same modules
+//! for as long as it is told.
 
 mod call;
 mod coefficients;
@@ -22,6 +23,7 @@ mod search;
 mod settings;
 mod shrink;
 mod smaller_call;
+mod soak;
 mod tally;
 mod windows;
 
@@ -30,7 +32,8 @@ use std::path::PathBuf;
 use std::process::ExitCode;
 use tally::Tally;
 
-const USAGE: &str = "usage: compare [--long] [--seed NUMBER] [--only MODULE] [--film DIRECTORY]";
+const USAGE: &str = "usage: compare [--long] [--seed NUMBER] [--only MODULE] [--film DIRECTORY]
+       compare --soak SECONDS [--seed NUMBER]";
 
 type Comparison = fn(&Plan, &mut Tally);
 
@@ -61,17 +64,18 @@ pub struct Plan {
 }
 
 impl Plan {
-    fn from_arguments(mut arguments: impl Iterator<Item = String>) -> Option<Plan> {
+    fn from_arguments(arguments: &[&str]) -> Option<Plan> {
+        let mut arguments = arguments.iter();
         let mut plan = Plan { long: false, seed: 6386, threads: 1, film: None, only: None };
         while let Some(argument) = arguments.next() {
-            match argument.as_str() {
+            match *argument {
                 "--long" => (plan.long, plan.threads) = (true, 2),
                 "--seed" => plan.seed = arguments.next()?.parse().ok()?,
                 "--film" => plan.film = Some(PathBuf::from(arguments.next()?)),
                 "--only" => {
                     let module = arguments.next()?;
-                    MODULES.iter().find(|(name, _)| *name == module)?;
-                    plan.only = Some(module);
+                    MODULES.iter().find(|(name, _)| name == module)?;
+                    plan.only = Some(module.to_string());
                 }
                 _ => return None,
             }
@@ -81,12 +85,17 @@ impl Plan {
 }
 
 fn main() -> ExitCode {
-    let Some(plan) = Plan::from_arguments(std::env::args().skip(1)) else {
+    let arguments: Vec<String> = std::env::args().skip(1).collect();
+    let arguments: Vec<&str> = arguments.iter().map(String::as_str).collect();
+    guard::report_faults();
+    if let Some((seconds, seed)) = soak::asked(&arguments) {
+        return soak::run(seconds, seed);
+    }
+    let Some(plan) = Plan::from_arguments(&arguments) else {
         eprintln!("{USAGE}");
         return ExitCode::from(2);
     };
     println!("compare: {} run, seed {}", if plan.long { "long" } else { "quick" }, plan.seed);
-    guard::report_faults();
     let mut tally = Tally::default();
     for (name, compare) in MODULES {
         if plan.only.as_deref().is_none_or(|only| only == *name) {

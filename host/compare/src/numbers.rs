@@ -1,5 +1,7 @@
 //! `u2s` on every byte; `clamp_s8` and `s2u` near 0 and at the ends of i32, in the long run on every i32.
 
+use crate::random::Random;
+use crate::soak::Calls;
 use crate::tally::{Kind, Tally};
 use crate::{Plan, ffi};
 use oracle::loop_filter;
@@ -17,6 +19,22 @@ pub fn compare(plan: &Plan, tally: &mut Tally) {
     });
     tally.run("clamp_s8", &LIMITED, |kind| signed(plan, kind, |v| same(v, loop_filter::clamp_s8(v), ffi::clamp_s8(v))));
     tally.run("s2u", &LIMITED, |kind| signed(plan, kind, |v| same(v, loop_filter::s2u(v), ffi::s2u(v))));
+}
+
+/// A call of each on any number, most of them near the limits.
+pub fn draw(random: &mut Random, calls: &mut Calls) -> Result<(), String> {
+    const ENDS: [i32; 9] = [i32::MIN, i32::MIN + 1, -129, -128, 0, 127, 128, i32::MAX - 1, i32::MAX];
+    let numbers = [random.one_of(&ENDS), random.below(1024) as i32 - 512, random.next() as i32];
+    let (byte, v) = (random.byte(), random.one_of(&numbers));
+    let outcomes = [
+        ("u2s", same(byte, loop_filter::u2s(byte), ffi::u2s(byte))),
+        ("clamp_s8", same(v, loop_filter::clamp_s8(v), ffi::clamp_s8(v))),
+        ("s2u", same(v, loop_filter::s2u(v), ffi::s2u(v))),
+    ];
+    outcomes.into_iter().try_for_each(|(entry, outcome)| {
+        calls.add(entry, 0);
+        outcome.map_err(|difference| format!("{entry}: {difference}"))
+    })
 }
 
 fn same<V: Display, T: Display + PartialEq>(v: V, rust: T, library: T) -> Result<(), String> {

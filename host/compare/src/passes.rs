@@ -5,7 +5,9 @@ use crate::Plan;
 use crate::call::{Call, Done, FLAGS, MODES, Memory, Outcome, PASSES, Pass, Planes, RustSteps, SEGMENTS};
 use crate::pictures::{on_layout, picture};
 use crate::random::Random;
+use crate::refusals::Changes;
 use crate::smaller_call::difference;
+use crate::soak::Draw;
 use crate::tally::{Kind, Tally};
 use entries::Layout;
 use oracle::{LoopFilterParams, opened};
@@ -150,16 +152,44 @@ fn any_start(plan: &Plan, pass: Pass, kind: &mut Kind) -> Result<(), String> {
     let times = if plan.long { 500_000 } else { 15_000 };
     rounds(plan, times, kind, |random, memory, kind| {
         let most = random.one_of(&[2, 4, 9]);
-        let mut call = picture(pass, 1 + random.below(most), 1 + random.below(most), random);
-        let n = call.macroblocks();
-        let any = random.below(n);
-        call.start = random.one_of(&[0, 1, n - 1, n, any, any]);
-        let (rest, any) = (n - call.start, random.below(n + 1));
-        let allowances = [0, 1, rest, rest + 1, rest.saturating_sub(1), any, 1 << 32, usize::MAX];
-        call.allowance = random.one_of(&allowances);
+        let call = from_any_start(pass, most, random);
         let expected = call.expected();
         classify(&call, expected.done(), &expected.planes, kind);
         same(&call, expected, memory).map(|_| ())
+    })
+}
+
+/// A call on at most `most` columns and rows.
+fn from_any_start(pass: Pass, most: usize, random: &mut Random) -> Call {
+    let mut call = picture(pass, 1 + random.below(most), 1 + random.below(most), random);
+    let n = call.macroblocks();
+    let any = random.below(n);
+    call.start = random.one_of(&[0, 1, n - 1, n, any, any]);
+    let (rest, any) = (n - call.start, random.below(n + 1));
+    let allowances = [0, 1, rest, rest + 1, rest.saturating_sub(1), any, 1 << 32, usize::MAX];
+    call.allowance = random.one_of(&allowances);
+    call
+}
+
+/// A call from any start, as drawn or with up to three changes, many of which are refused. What the Rust's steps leave
+/// of a whole picture is what its pass leaves.
+pub fn drawer(pass: Pass) -> Draw {
+    let (changes, mut memory) = (Changes::new(pass), Memory::new());
+    Box::new(move |random, calls| {
+        let most = if random.below(100) == 0 { 30 } else { random.one_of(&[2, 4, 9]) };
+        let mut call = from_any_start(pass, most, random);
+        changes.some(&mut call, random.one_of(&[0, 0, 1, 2, 3]), random);
+        if random.below(20) == 0 {
+            call.layout.rows = 0;
+        }
+        let expected = call.expected();
+        calls.add(pass.entry(), expected.answer);
+        let count = expected.done().count;
+        let whole = expected.answer == 0 && count > 0 && count == call.macroblocks();
+        if whole && expected.planes != call.unbroken() {
+            return Err(format!("the Rust's steps one by one must leave what its pass leaves\n{call}"));
+        }
+        same(&call, expected, &mut memory).map(|_| ())
     })
 }
 

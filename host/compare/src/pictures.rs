@@ -37,7 +37,8 @@ fn stride(width: usize, random: &mut Random) -> usize {
     }
 }
 
-fn config(random: &mut Random) -> FrameFilterConfig {
+/// Settings as a frame header has them, or any.
+pub fn config(random: &mut Random) -> FrameFilterConfig {
     if random.below(4) > 0 {
         return settings::usual(random);
     }

@@ -119,7 +119,8 @@ impl Changes {
         }
     }
 
-    fn some(&self, call: &mut Call, times: usize, random: &mut Random) {
+    /// Makes some changes, one after the other.
+    pub fn some(&self, call: &mut Call, times: usize, random: &mut Random) {
         for _ in 0..times {
             let (_, change) = &self.0[random.below(self.0.len())];
             change(call, random);

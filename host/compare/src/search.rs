@@ -3,12 +3,13 @@
 
 use crate::Plan;
 use crate::call::{Call, LARGEST, PASSES, Pass, Planes, SIDE, least_length, run_rust};
-use crate::ffi::{self, Choice, Lists, Source};
+use crate::ffi::{self, Choice, Lists, Sought, Source};
 use crate::guard::{self, Guarded};
 use crate::pictures::picture;
 use crate::random::Random;
 use crate::recorded;
 use crate::settings;
+use crate::soak::Draw;
 use crate::tally::{Kind, Tally};
 use oracle::{InterFilterInfo, KeyframePlanes, SourcePlanes, loop_filter};
 use std::fmt;
@@ -16,6 +17,8 @@ use std::fmt;
 /// What the out-parameters hold before a call.
 const NO_SUM: u64 = 0x5A5A_5A5A_5A5A_5A5A;
 const UNTOUCHED: Choice = Choice { level: 0x5A, sharpness: 0xA5, count: 0x5A5A_5A5A };
+
+const SOUGHT: [Sought; 2] = [Sought::Params, Sought::Level];
 
 /// The only counts that can occur, 19 to 30.
 const COUNTS: [(&str, usize); 5] =
@@ -47,10 +50,7 @@ const REFUSED: [&str; 7] =
 
 pub fn compare(plan: &Plan, tally: &mut Tally) {
     for pass in PASSES {
-        let name = match pass {
-            Pass::Key => "select_filter_params",
-            Pass::Inter => "select_filter_params_inter",
-        };
+        let name = Sought::Params.entry(pass);
         tally.run(&format!("{name}, random pictures"), &CLASSES, |kind| pictures(plan, pass, kind));
         tally.run(&format!("{name}, damaged"), &REFUSED, |kind| damaged(plan, pass, kind));
     }
@@ -248,7 +248,6 @@ impl Search {
         let mut lent = memory.lent.iter_mut().zip(&before).map(|(memory, bytes)| memory.lend(self.call.side, bytes));
         let lent: [&mut [u8]; 14] = std::array::from_fn(|_| lent.next().expect("fourteen slices"));
         let [y, u, v, sy, su, sv, modes, segments, flags, references, inter_modes, ty, tu, tv] = lent;
-        let planes = [&*y, &*u, &*v];
         let source = Source {
             planes: [&*sy, &*su, &*sv],
             width: self.width,
@@ -257,31 +256,23 @@ impl Search {
             uv_stride: self.strides[1],
         };
         let lists = Lists { modes, segments, flags, references, inter_modes };
-        let mut choice = UNTOUCHED;
-        let (layout, config) = (&self.call.layout, &self.call.config);
+        let Call { pass, layout, config, .. } = &self.call;
+        let (planes, pass) = ([&*y, &*u, &*v], *pass);
+        let search = ffi::Search { pass, planes, layout, source: &source, lists: &lists, config };
         let mut sum = (0, NO_SUM);
         sum.0 = guard::calling(self, || ffi::reconstruction_ssd(planes, layout, &source, &mut sum.1));
-        let entry = match self.call.pass {
-            Pass::Key => ffi::select_filter_params,
-            Pass::Inter => ffi::select_filter_params_inter,
-        };
-        let answer = guard::calling(self, || {
-            entry(planes, layout, &source, &lists, config, [&mut *ty, &mut *tu, &mut *tv], &mut choice)
+        let answers = SOUGHT.map(|sought| {
+            let scratch = [&mut *ty, &mut *tu, &mut *tv];
+            scratch.into_iter().zip(&self.scratch).for_each(|(lent, before)| lent.copy_from_slice(before));
+            let mut choice = UNTOUCHED;
+            let scratch = [&mut *ty, &mut *tu, &mut *tv];
+            let answer = guard::calling(self, || ffi::select(&search, sought, scratch, &mut choice));
+            (answer, choice, [ty.to_vec(), tu.to_vec(), tv.to_vec()])
         });
         // The level alone: the same answer, and the same scratch planes once more.
-        let scratch = [ty.to_vec(), tu.to_vec(), tv.to_vec()];
-        let (ty, tu, tv) = (restored(ty, &before[11]), restored(tu, &before[12]), restored(tv, &before[13]));
-        let (mut level, mut count) = (UNTOUCHED.level, UNTOUCHED.count);
-        let level_entry = match self.call.pass {
-            Pass::Key => ffi::select_filter_level,
-            Pass::Inter => ffi::select_filter_level_inter,
-        };
-        let level_answer = guard::calling(self, || {
-            let lent = [&mut *ty, &mut *tu, &mut *tv];
-            level_entry(planes, layout, &source, &lists, config, lent, &mut level, &mut count)
-        });
-        let alike = (level_answer, level, count) == (answer, choice.level, choice.count)
-            && scratch == [ty.to_vec(), tu.to_vec(), tv.to_vec()];
+        let [(answer, choice, scratch), level_alone] = answers;
+        let without_sharpness = Choice { sharpness: UNTOUCHED.sharpness, ..choice };
+        let alike = level_alone == (answer, without_sharpness, scratch.clone());
         let Lists { modes, segments, flags, references, inter_modes } = lists;
         let others = [y, u, v, sy, su, sv, modes, segments, flags, references, inter_modes];
         let others_stay = others.iter().zip(&before).all(|(now, before)| **now == before[..]);
@@ -294,7 +285,7 @@ impl Search {
         if expected.answer == 0 {
             let rule = (expected.choice.level, expected.choice.sharpness);
             if self.rust().is_some_and(|rust| rust != rule) {
-                return Err(format!("{self}\n  the rule: {rule:?}\n  the Rust: {:?}", self.rust()));
+                return Err(format!("\n{self}\n  the rule: {rule:?}\n  the Rust: {:?}", self.rust()));
             }
         }
         let library = self.library(memory);
@@ -303,7 +294,7 @@ impl Search {
         }
         let smallest = self.smallest(memory);
         let (expected, library) = (smallest.expected(), smallest.library(memory));
-        Err(format!("{smallest}\n  expected: {expected}\n  library: {library}"))
+        Err(format!("\n{smallest}\n  expected: {expected}\n  library: {library}"))
     }
 
     /// The simplest settings and source size found that still differ.
@@ -349,11 +340,6 @@ impl fmt::Display for Search {
         writeln!(f, "  source {} by {}, strides {:?}", self.width, self.height, self.strides)?;
         write!(f, "  source {:?}\n  scratch lengths {:?}", self.source, self.scratch.each_ref().map(Vec::len))
     }
-}
-
-fn restored<'a>(lent: &'a mut [u8], before: &[u8]) -> &'a mut [u8] {
-    lent.copy_from_slice(before);
-    lent
 }
 
 /// A search that is not refused. The source is often what some level makes of the reconstruction.
@@ -405,6 +391,19 @@ fn pictures(plan: &Plan, pass: Pass, kind: &mut Kind) -> Result<(), String> {
         }
         let outcome = search.same(memory)?;
         classify(&search, &outcome, kind);
+        Ok(())
+    })
+}
+
+/// A search as drawn or with one or two faults, and the error sum of the same pictures.
+pub fn drawer(pass: Pass) -> Draw {
+    let mut memory = Memory::new();
+    Box::new(move |random, calls| {
+        let mut search = search(pass, random);
+        (0..random.below(3)).for_each(|_| damage(&mut search, random));
+        let expected = search.same(&mut memory)?;
+        calls.add("reconstruction_ssd", expected.sum.0);
+        SOUGHT.iter().for_each(|sought| calls.add(sought.entry(pass), expected.answer));
         Ok(())
     })
 }

@@ -104,7 +104,7 @@ impl Tally {
 }
 
 /// A number with a comma at every third digit.
-fn grouped(number: u64) -> String {
+pub fn grouped(number: u64) -> String {
     let digits = number.to_string();
     let mut text = String::new();
     for (index, digit) in digits.chars().enumerate() {

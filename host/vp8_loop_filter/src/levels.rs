@@ -43,5 +43,5 @@ pub fn calculate_mb_filter_level_inter(
 /// Whether any coefficient of a macroblock is not 0.
 pub fn mb_has_coeffs(coeffs: &MbCoeffs) -> bool {
     let MbCoeffs { y2, y, u, v } = coeffs;
-    [y2, y.as_flattened(), u.as_flattened(), v.as_flattened()].into_iter().any(entries::has_coeffs)
+    [y2, y.as_flattened(), u.as_flattened(), v.as_flattened()].into_iter().any(entries::mb_has_coeffs)
 }

@@ -15,8 +15,9 @@
 #![deny(missing_docs, unsafe_code)]
 
 mod config;
-#[allow(unsafe_code)]
-mod entries;
+#[allow(missing_docs, unsafe_code)]
+#[doc(hidden)]
+pub mod entries;
 mod kernels;
 mod levels;
 mod macroblock;

@@ -1,5 +1,7 @@
 //! What the filter reads of a macroblock, and the byte lists that the library takes for it.
 
+use crate::entries::ByteLists;
+
 /// The luma mode of a macroblock (RFC 6386, section 11.2). `Split` macroblocks have mode `B` too.
 #[derive(Debug, Clone, Copy, PartialEq, Eq, Hash, Default)]
 #[allow(missing_docs)]
@@ -105,17 +107,13 @@ fn bytes<T>(list: impl IntoIterator<Item = T>, byte: impl Fn(T) -> u8) -> Vec<u8
 
 /// The byte lists of a picture.
 pub(crate) struct Lists {
-    pub modes: Vec<u8>,
-    pub segments: Vec<u8>,
-    pub flags: Vec<u8>,
-    pub inter: Option<InterLists>,
+    modes: Vec<u8>,
+    segments: Vec<u8>,
+    flags: Vec<u8>,
+    /// References and inter modes.
+    inter: Option<[Vec<u8>; 2]>,
     /// What the caller lent, by name, and its length.
     pub lent: Vec<(&'static str, usize)>,
-}
-
-pub(crate) struct InterLists {
-    pub references: Vec<u8>,
-    pub inter_modes: Vec<u8>,
 }
 
 impl Lists {
@@ -136,11 +134,16 @@ impl Lists {
             modes: bytes(&records, |record| mode_byte(record.y_mode)),
             segments: bytes(&records, |record| record.segment_id.unwrap_or(0)),
             flags: bytes(has_coeffs, u8::from),
-            inter: inter.map(|info| InterLists {
-                references: bytes(info.ref_frames, |reference| reference_byte(*reference)),
-                inter_modes: bytes(info.inter_modes, |mode| inter_mode_byte(*mode)),
+            inter: inter.map(|info| {
+                let references = bytes(info.ref_frames, |reference| reference_byte(*reference));
+                [references, bytes(info.inter_modes, |mode| inter_mode_byte(*mode))]
             }),
             lent,
         }
+    }
+
+    pub fn bytes(&self) -> ByteLists<'_> {
+        let Lists { modes, segments, flags, inter, .. } = self;
+        ByteLists { modes, segments, flags, inter: inter.as_ref().map(|lists| lists.each_ref().map(Vec::as_slice)) }
     }
 }

@@ -177,6 +177,7 @@ fn part(
     allowance: usize,
 ) -> Result<Done, Refusal> {
     let mut done = Done { count: 0, next: 0 };
-    let number = entries::filter(&mut planes, lists, config, start, allowance, &mut done.count, &mut done.next);
+    let number =
+        entries::filter(&mut planes, &lists.bytes(), config, start, allowance, &mut done.count, &mut done.next);
     answer(number, || Lent::from(&planes).and_lists(&lists.lent).and_start(start)).map(|()| done)
 }

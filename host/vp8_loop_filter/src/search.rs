@@ -98,8 +98,8 @@ where
     let planes = planes.into();
     let lists = Lists::new(modes, has_coeffs.iter().copied(), inter);
     let mut choice = Choice { level: 0, sharpness: 0, candidates: 0 };
-    let Choice { level, sharpness, candidates } = &mut choice;
-    let number = entries::select_filter_params(&planes, src, &lists, base, &mut scratch, level, sharpness, candidates);
+    let (lists, Choice { level, sharpness, candidates }) = (lists.bytes(), &mut choice);
+    let number = entries::select(&planes, src, &lists, base, &mut scratch, level, Some(sharpness), candidates);
     answer(number, || Lent::from(&planes).and_scratch(&scratch).and_source(src)).map(|()| choice)
 }
 
@@ -118,9 +118,8 @@ where
     let planes = planes.into();
     let lists = Lists::new(modes, has_coeffs.iter().copied(), inter);
     with_scratch(&planes, |mut scratch| {
-        let (mut level, mut candidates) = (0, 0);
-        let number =
-            entries::select_filter_level(&planes, src, &lists, base, &mut scratch, &mut level, &mut candidates);
+        let (lists, mut level, mut candidates) = (lists.bytes(), 0, 0);
+        let number = entries::select(&planes, src, &lists, base, &mut scratch, &mut level, None, &mut candidates);
         answer(number, || Lent::from(&planes).and_scratch(&scratch).and_source(src)).map(|()| level)
     })
 }

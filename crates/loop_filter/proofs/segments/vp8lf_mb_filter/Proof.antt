@@ -6,8 +6,8 @@ use Rattle.kernels.specs.Answers.{numberOf}
 use Rattle.loop_filter.proofs.segments.vp8lf_mb_filter.Statement.{statement}
 use Rattle.loop_filter.proofs.segments.vp8lf_mb_filter.Tie as tie
 
-mb-filter-requires : tie.Need-mb-filter-requires
-mb-filter-requires c κs = search needs
+mb-filter-window-requires : tie.Need-mb-filter-window-requires
+mb-filter-window-requires c κs = search needs
 
 number-requires : tie.Need-number-requires
 number-requires c κs = search needs
@@ -17,8 +17,8 @@ same-length c = search needs
 
 returns : tie.Need-returns
 returns c =
-    let k = c .before .before .before .mb-filter .ensures in
+    let k = c .before .before .before .mb-filter-window .ensures in
     (c .number .ensures ∙ ap numberOf (k .0), k .1)
 
 pub vp8lf-mb-filter-spec : {M : Type 1} → statement M
-vp8lf-mb-filter-spec = tie.close (tie.spec mb-filter-requires number-requires same-length returns)
+vp8lf-mb-filter-spec = tie.close (tie.spec mb-filter-window-requires number-requires same-length returns)

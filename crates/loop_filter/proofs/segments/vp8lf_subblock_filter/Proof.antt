@@ -6,8 +6,8 @@ use Rattle.kernels.specs.Answers.{numberOf}
 use Rattle.loop_filter.proofs.segments.vp8lf_subblock_filter.Statement.{statement}
 use Rattle.loop_filter.proofs.segments.vp8lf_subblock_filter.Tie as tie
 
-subblock-filter-requires : tie.Need-subblock-filter-requires
-subblock-filter-requires c κs = search needs
+subblock-filter-window-requires : tie.Need-subblock-filter-window-requires
+subblock-filter-window-requires c κs = search needs
 
 number-requires : tie.Need-number-requires
 number-requires c κs = search needs
@@ -17,9 +17,9 @@ same-length c = search needs
 
 returns : tie.Need-returns
 returns c =
-    let k = c .before .before .before .subblock-filter .ensures in
+    let k = c .before .before .before .subblock-filter-window .ensures in
     (c .number .ensures ∙ ap numberOf (k .0), k .1)
 
 pub vp8lf-subblock-filter-spec : {M : Type 1} → statement M
 vp8lf-subblock-filter-spec =
-    tie.close (tie.spec subblock-filter-requires number-requires same-length returns)
+    tie.close (tie.spec subblock-filter-window-requires number-requires same-length returns)

@@ -46,6 +46,9 @@ loop-less c = omega arith
 loop-again : tie.Need-loop-again Inv-loop μ-loop
 loop-again c = (omega arith, (omega arith, row-more _ _ _ _ _ _ _ (c .before .before .before .before .loop .inv .1 .1) (c .squared-difference .ensures .0)))
 
+cast-result : tie.Need-cast-result Inv-loop μ-loop
+cast-result c = search needs
+
 returns : tie.Need-returns Inv-loop μ-loop
 returns c = c .before .loop .inv .1 .1 ∙ ap (rowSum _ _ _ _) (omega arith)
 
@@ -65,4 +68,5 @@ row-sum-spec =
     add-k
     loop-less
     loop-again
+    cast-result
     returns)

@@ -1,0 +1,102 @@
+//! Records the answers of the Rust that the program `crates/replay` replays. Where the Rust has no answer, as for a
+//! refused call, the recorded one is document 01's.
+//!
+//! Without arguments it writes `stdin` and `stdout` of the program anew. With `--check` it makes them anew and compares
+//! them with the files.
+
+mod bytes;
+mod passes;
+mod picture;
+mod random;
+mod recorded_film;
+mod search;
+mod settings;
+mod small;
+
+use bytes::Bytes;
+use random::Random;
+use std::path::Path;
+use std::process::ExitCode;
+
+const SEED: u64 = 0x7265_706C_6179;
+
+/// The recorded calls of a function, or of functions that share a record.
+pub struct Section {
+    name: String,
+    records: Vec<Bytes>,
+    /// How many calls a record has.
+    marks: usize,
+}
+
+impl Section {
+    pub fn new(name: &str, records: impl IntoIterator<Item = Bytes>) -> Section {
+        Section { name: String::from(name), records: records.into_iter().collect(), marks: 1 }
+    }
+
+    pub fn marked(self, marks: usize) -> Section {
+        Section { marks, ..self }
+    }
+
+    fn calls(&self) -> usize {
+        self.marks * self.records.len()
+    }
+}
+
+fn sections() -> Vec<Section> {
+    let random = &mut Random::new(SEED);
+    let mut sections = small::sections(random);
+    sections.extend(passes::sections(random));
+    sections.extend(recorded_film::sections());
+    sections.extend(search::sections(random));
+    sections
+}
+
+/// What the program reads: of each section the number of records, and the records.
+fn input(sections: &[Section]) -> Vec<u8> {
+    let mut input = Vec::new();
+    for section in sections {
+        let count = u16::try_from(section.records.len()).expect("a number of two bytes");
+        input.extend(count.to_le_bytes());
+        section.records.iter().for_each(|record| input.extend(&record.0));
+    }
+    input
+}
+
+/// What the program must write: of each section its name, and a dot for each call.
+fn output(sections: &[Section]) -> Vec<u8> {
+    let line = |section: &Section| format!("{} {}\n", section.name, ".".repeat(section.calls()));
+    let lines: String = sections.iter().map(line).collect();
+    (lines + "end of the recording\n").into_bytes()
+}
+
+fn main() -> ExitCode {
+    let arguments: Vec<String> = std::env::args().skip(1).collect();
+    let check = match arguments.iter().map(String::as_str).collect::<Vec<_>>()[..] {
+        [] => false,
+        ["--check"] => true,
+        _ => {
+            eprintln!("replay: the only argument is --check");
+            return ExitCode::from(2);
+        }
+    };
+    let sections = sections();
+    let directory = Path::new(env!("CARGO_MANIFEST_DIR")).join("../../crates/replay");
+    let mut equal = true;
+    for (name, made) in [("stdin", input(&sections)), ("stdout", output(&sections))] {
+        let path = directory.join(name);
+        if check {
+            if std::fs::read(&path).ok() != Some(made) {
+                eprintln!("replay: crates/replay/{name} is not what the oracle answers now");
+                equal = false;
+            }
+        } else if let Err(error) = std::fs::write(&path, made) {
+            eprintln!("replay: {}: {error}", path.display());
+            equal = false;
+        }
+    }
+    for section in &sections {
+        let bytes: usize = section.records.iter().map(|record| record.0.len()).sum();
+        println!("{:6} calls, {:6} bytes: {}", section.calls(), bytes, section.name);
+    }
+    if equal { ExitCode::SUCCESS } else { ExitCode::FAILURE }
+}

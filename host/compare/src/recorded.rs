@@ -45,6 +45,9 @@ fn read_all(directory: &Path) -> Result<Vec<Stream>, String> {
     let entries = fs::read_dir(directory).map_err(|error| unreadable(directory, error))?;
     let mut paths: Vec<_> = entries.filter_map(|entry| entry.ok()).map(|entry| entry.path()).collect();
     paths.retain(|path| path.extension().is_some_and(|extension| extension == "vplf"));
+    if paths.is_empty() {
+        return Err(format!("{} has no .vplf file", directory.display()));
+    }
     paths.sort();
     let stream = |path: &Path| {
         let bytes = fs::read(path).map_err(|error| unreadable(path, error))?;

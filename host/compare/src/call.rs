@@ -7,12 +7,10 @@ use oracle::{FrameFilterConfig, KeyframePlanes, loop_filter};
 use std::fmt;
 
 pub use entries::Pass;
+pub use rules::{LARGEST, SIDE};
 
 /// y, u and v.
 pub type Planes = [Vec<u8>; 3];
-
-/// How many samples wide and high a macroblock is in y, u and v.
-pub const SIDE: [usize; 3] = [16, 8, 8];
 
 /// What the out-parameters and the numbers beside them hold before a call.
 const UNTOUCHED: usize = 0x5A5A_5A5A_5A5A_5A5A;
@@ -25,8 +23,6 @@ pub const LIST_NAMES: [&str; 5] = ["modes", "segments", "flags", "references", "
 pub const MODES: usize = 0;
 pub const SEGMENTS: usize = 1;
 pub const FLAGS: usize = 2;
-/// The largest byte that a list may hold.
-pub const LARGEST: [u8; 5] = [4, 255, 255, 3, 5];
 
 #[derive(Clone)]
 pub struct Call {
@@ -91,45 +87,28 @@ impl Call {
     }
 
     pub fn stride(&self, plane: usize) -> usize {
-        if plane == 0 { self.layout.y_stride } else { self.layout.uv_stride }
+        self.layout.stride(plane)
     }
 
-    /// How many lists the pass reads.
-    pub fn lists_read(&self) -> usize {
+    /// The lists that the pass reads.
+    pub fn lists_read(&self) -> &[Vec<u8>] {
         match self.pass {
-            Pass::Key => 3,
-            Pass::Inter => 5,
+            Pass::Key => &self.lists[..3],
+            Pass::Inter => &self.lists,
         }
+    }
+
+    /// Whether 6 refuses a byte of the lists that the pass reads.
+    pub fn bad_entry(&self) -> bool {
+        self.lists_read().iter().zip(LARGEST).any(|(list, largest)| list.iter().any(|byte| *byte > largest))
     }
 
     /// Document 01, "Who can cause which refusal", in the order of a pass.
     pub fn rule(&self) -> Result<Done, u8> {
-        let Layout { columns, rows, .. } = self.layout;
-        if columns == 0 || rows == 0 {
-            return Ok(Done { count: 0, next: 0 });
-        }
-        if columns > 1024 || rows > 1024 {
-            return Err(ffi::GRID_TOO_LARGE);
-        }
-        if (0..3).any(|plane| self.stride(plane) < SIDE[plane] * columns || self.stride(plane) > 65_536) {
-            return Err(ffi::BAD_STRIDE);
-        }
-        if (0..3).any(|plane| self.planes[plane].len() < least_length(&self.layout, plane)) {
-            return Err(ffi::SHORT_PLANE);
-        }
-        let n = columns * rows;
-        let lists = &self.lists[..self.lists_read()];
-        if lists.iter().any(|list| list.len() != n) {
-            return Err(ffi::WRONG_LENGTH);
-        }
-        if lists.iter().zip(LARGEST).any(|(list, largest)| list.iter().any(|byte| *byte > largest)) {
-            return Err(ffi::BAD_ENTRY);
-        }
-        if self.start > n {
-            return Err(ffi::START_TOO_LARGE);
-        }
-        let count = self.allowance.min(n - self.start);
-        Ok(Done { count, next: self.start + count })
+        let lengths = self.planes.each_ref().map(Vec::len);
+        let other_length = |n: usize| self.lists_read().iter().any(|list| list.len() != n);
+        rules::pass(&self.layout, lengths, other_length, self.bad_entry(), self.start, self.allowance)
+            .map(|[count, next]| Done { count, next })
     }
 
     /// What the library must answer and leave: the rule, and the Rust's steps.
@@ -212,12 +191,6 @@ impl Call {
     }
 }
 
-/// Document 01, refusal 3, in a grid and strides that 1 and 2 accept.
-pub fn least_length(layout: &Layout, plane: usize) -> usize {
-    let stride = if plane == 0 { layout.y_stride } else { layout.uv_stride };
-    (SIDE[plane] * layout.rows - 1) * stride + SIDE[plane] * layout.columns
-}
-
 pub fn run_rust(pass: Pass, planes: &mut KeyframePlanes, records: &Records, config: &FrameFilterConfig) {
     let Records { modes, has_coeffs, references, inter_modes } = records;
     match pass {
@@ -268,7 +241,7 @@ impl fmt::Display for Call {
         writeln!(f, "  {}, start {}, allowance {}", self.pass.entry(), self.start, self.allowance)?;
         writeln!(f, "  columns {columns}, rows {rows}, luma stride {y_stride}, chroma stride {uv_stride}")?;
         writeln!(f, "  {:?}", self.config)?;
-        for (name, list) in LIST_NAMES.iter().zip(&self.lists).take(self.lists_read()) {
+        for (name, list) in LIST_NAMES.iter().zip(self.lists_read()) {
             writeln!(f, "  {} {name}: {}", list.len(), Few(list))?;
         }
         for (plane, name) in ["y", "u", "v"].into_iter().enumerate() {
@@ -357,7 +330,7 @@ mod tests {
     /// A grid of 2 columns by 1 row with strides above its width, planes of the least length, all entries 0.
     fn call(start: usize, allowance: usize) -> Call {
         let layout = Layout { columns: 2, rows: 1, y_stride: 40, uv_stride: 20 };
-        let planes = [0, 1, 2].map(|plane| vec![100; least_length(&layout, plane)]);
+        let planes = [0, 1, 2].map(|plane| vec![100; layout.least_length(plane)]);
         let lists = [const { Vec::new() }; 5].map(|_: Vec<u8>| vec![0; 2]);
         Call {
             pass: Pass::Inter,
@@ -385,25 +358,25 @@ mod tests {
         assert_eq!(call(0, 1).rule(), done(1, 1));
         assert_eq!(call(1, usize::MAX).rule(), done(1, 2));
         assert_eq!(call(2, 5).rule(), done(0, 2));
-        assert_eq!(call(3, 0).rule(), Err(ffi::START_TOO_LARGE));
+        assert_eq!(call(3, 0).rule(), Err(rules::START_TOO_LARGE));
     }
 
     /// Each refusal in turn hides those after it.
     #[test]
     fn refusals_in_their_order() {
         let mut bad = call(3, 1);
-        assert_eq!(bad.rule(), Err(ffi::START_TOO_LARGE));
+        assert_eq!(bad.rule(), Err(rules::START_TOO_LARGE));
         bad.lists[4][1] = 6;
-        assert_eq!(bad.rule(), Err(ffi::BAD_ENTRY));
+        assert_eq!(bad.rule(), Err(rules::BAD_ENTRY));
         assert!(Call { pass: Pass::Key, start: 2, ..bad.clone() }.rule().is_ok());
         bad.lists[1].push(0);
-        assert_eq!(bad.rule(), Err(ffi::WRONG_LENGTH));
+        assert_eq!(bad.rule(), Err(rules::WRONG_LENGTH));
         bad.planes[2].pop();
-        assert_eq!(bad.rule(), Err(ffi::SHORT_PLANE));
+        assert_eq!(bad.rule(), Err(rules::SHORT_PLANE));
         bad.layout.uv_stride = 15;
-        assert_eq!(bad.rule(), Err(ffi::BAD_STRIDE));
+        assert_eq!(bad.rule(), Err(rules::BAD_STRIDE));
         bad.layout.columns = 1025;
-        assert_eq!(bad.rule(), Err(ffi::GRID_TOO_LARGE));
+        assert_eq!(bad.rule(), Err(rules::GRID_TOO_LARGE));
         bad.layout.rows = 0;
         assert_eq!(bad.rule(), Ok(Done { count: 0, next: 0 }));
     }

@@ -2,11 +2,11 @@
 //! the Rust's `MbCoeffs`, flattened in the order y2, y, u, v.
 
 use crate::guard::{self, Guarded, SIDES};
-use crate::random::Random;
 use crate::soak::Draw;
 use crate::tally::{Kind, Tally};
 use crate::{Plan, ffi};
 use oracle::MbCoeffs;
+use rules::random::Random;
 
 const LONGEST: usize = 800;
 /// Numbers that are not 0; those with a low or a high byte of 0 among them.

@@ -2,11 +2,11 @@
 
 use crate::ffi::{self, Layout};
 use crate::passes::rounds;
-use crate::random::Random;
 use crate::reach::reached;
 use crate::soak::Calls;
 use crate::tally::{Kind, Tally};
 use crate::{Plan, guard};
+use rules::random::Random;
 
 /// What the out-parameters and the numbers beside them hold before a call.
 const UNTOUCHED: usize = 0x5A5A_5A5A_5A5A_5A5A;
@@ -29,7 +29,7 @@ pub fn compare(plan: &Plan, tally: &mut Tally) {
     tally.run("final_rows, any arguments", &CLASSES, |kind| {
         rounds(plan, times, kind, |random, _, kind| {
             let (layout, start) = any_arguments(random);
-            same(&layout, start, rule(&layout, start), kind)
+            same(&layout, start, rules::final_rows(&layout, start), kind)
         })
     });
 }
@@ -37,7 +37,7 @@ pub fn compare(plan: &Plan, tally: &mut Tally) {
 /// A call with any arguments.
 pub fn draw(random: &mut Random, calls: &mut Calls) -> Result<(), String> {
     let (layout, start) = any_arguments(random);
-    let expected = rule(&layout, start);
+    let expected = rules::final_rows(&layout, start);
     calls.add("final_rows", expected.err().unwrap_or(0));
     check(&layout, start, expected)
 }
@@ -51,26 +51,6 @@ fn any_arguments(random: &mut Random) -> (Layout, usize) {
     let row = random.below(rows.min(1024) + 1).saturating_mul(columns);
     let boundaries = [row.saturating_sub(1), row, row.saturating_add(1), n, n.saturating_add(1)];
     (layout, random.one_of(&[&boundaries[..], &[0, any, 1 << 32, usize::MAX]].concat()))
-}
-
-/// Zero columns or rows first, then 1, then 7. The strides are not read.
-fn rule(layout: &Layout, start: usize) -> Result<[usize; 2], u8> {
-    let Layout { columns, rows, .. } = *layout;
-    if columns == 0 || rows == 0 {
-        return Ok([0, 0]);
-    }
-    if columns > 1024 || rows > 1024 {
-        return Err(ffi::GRID_TOO_LARGE);
-    }
-    if start > columns * rows {
-        return Err(ffi::START_TOO_LARGE);
-    }
-    // The first row that a macroblock from the start on can reach, or the end of the grid.
-    let first = |side: usize| {
-        let top = |m: usize| (m / columns * side).saturating_sub(3);
-        (start..columns * rows).map(top).min().unwrap_or(rows * side)
-    };
-    Ok([first(16), first(8)])
 }
 
 /// The rows at the top of luma and of both chroma planes in which no sample can be reached.
@@ -94,7 +74,7 @@ fn same(layout: &Layout, start: usize, expected: Result<[usize; 2], u8>, kind: &
         Ok([0, _]) => "no row final",
         Ok([luma, _]) if luma == 16 * layout.rows => "all rows final",
         Ok(_) => "some rows final",
-        Err(ffi::GRID_TOO_LARGE) => "refused: 1",
+        Err(rules::GRID_TOO_LARGE) => "refused: 1",
         Err(_) => "refused: 7",
     };
     kind.add_class(class, 1);
@@ -130,7 +110,7 @@ mod tests {
         for (start, expected) in [(0, [0, 0]), (2, [0, 0]), (3, [13, 5]), (5, [13, 5]), (6, [29, 13]), (9, [48, 24])] {
             assert_eq!(leading_rows(3, 3, start), expected);
             let layout = Layout { columns: 3, rows: 3, y_stride: 0, uv_stride: 0 };
-            assert_eq!(rule(&layout, start), Ok(expected));
+            assert_eq!(rules::final_rows(&layout, start), Ok(expected));
         }
     }
 }

@@ -7,10 +7,10 @@ use crate::call::{Call, Done, Memory, Outcome, PASSES, Pass, Planes, SIDE};
 use crate::guard::SIDES;
 use crate::passes::{each_step, rounds, same};
 use crate::pictures::{entries, picture, planes};
-use crate::random::Random;
 use crate::reach::reached;
 use crate::refusals::Changes;
 use crate::tally::{Kind, Tally};
+use rules::random::Random;
 
 const CLASSES: [&str; 12] = [
     "accepted call",
@@ -157,7 +157,7 @@ fn put_in(now: &mut Call, k: usize, random: &mut Random) {
         let later: Vec<usize> = grid(now, plane).filter(|i| macroblock(now, plane, *i) >= k).collect();
         later.into_iter().for_each(|i| now.planes[plane][i] = other[i]);
     }
-    for list in 0..now.lists_read() {
+    for list in 0..now.lists_read().len() {
         let others = entries(list, n, random);
         now.lists[list][k..].copy_from_slice(&others[k..]);
     }

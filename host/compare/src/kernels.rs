@@ -1,12 +1,12 @@
 //! The four kernels on random and extreme windows, at every base around the ends of slices of 0 to 20 bytes.
 
 use crate::guard::{self, Guarded, SIDES, Side};
-use crate::random::Random;
 use crate::shrink::{Cases, shrink, smaller_bytes};
 use crate::soak::Draw;
 use crate::tally::{Kind, Tally};
 use crate::{Plan, ffi};
 use oracle::{loop_filter, opened};
+use rules::random::Random;
 use std::fmt;
 use std::panic;
 
@@ -63,7 +63,7 @@ pub fn drawer() -> Draw {
     Box::new(move |random, calls| {
         ENTRIES.into_iter().try_for_each(|(name, _, kernel)| {
             let case = if random.below(4) > 0 { Case::fitting(kernel, random) } else { Case::anywhere(kernel, random) };
-            SIDES.iter().for_each(|_| calls.add(name, if case.fits() { 0 } else { ffi::NO_WINDOW }));
+            SIDES.iter().for_each(|_| calls.add(name, if case.fits() { 0 } else { rules::NO_WINDOW }));
             case.check(&mut memory)
         })
     })
@@ -289,7 +289,7 @@ impl Case {
 
     /// At any base near the ends of a slice of any length, or far beyond it.
     fn anywhere(kernel: KernelOf, random: &mut Random) -> Case {
-        let (near, far) = (random.below(LONGEST + 3), random.next() as usize);
+        let (near, far) = (random.below(LONGEST + 3), random.word() as usize);
         let base = random.one_of(&[near, near, near, far, 1 << 32 | near, usize::MAX - near]);
         Case::at(kernel, random.below(LONGEST + 1), base, random)
     }
@@ -333,7 +333,7 @@ impl Case {
         if self.fits() {
             self.call_rust(&mut answer.seg.bytes[..self.seg.len], &mut answer.adjustment[1]);
         } else {
-            answer.refusal = ffi::NO_WINDOW;
+            answer.refusal = rules::NO_WINDOW;
         }
         answer
     }

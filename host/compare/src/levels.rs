@@ -2,13 +2,13 @@
 //! up to a few above the last that stands for something, and segments below and above 4.
 
 use crate::pictures::config;
-use crate::random::Random;
 use crate::shrink::{Cases, shrink, smaller_bytes};
 use crate::soak::Calls;
 use crate::tally::{Kind, Tally};
 use crate::{Plan, ffi, settings};
 use entries::bytes;
 use oracle::{FrameFilterConfig, loop_filter};
+use rules::random::Random;
 use std::fmt;
 
 const SEGMENTS: [u8; 7] = [0, 1, 2, 3, 4, 5, 255];
@@ -146,7 +146,7 @@ impl Case {
     fn answers(&self) -> [(u8, [u8; 3]); 2] {
         match self.rust(Some(self.segment)) {
             Some(level) => [(0, [UNTOUCHED, level, UNTOUCHED]), self.library(!level)],
-            None => [(ffi::BAD_ENTRY, [UNTOUCHED; 3]), self.library(UNTOUCHED)],
+            None => [(rules::BAD_ENTRY, [UNTOUCHED; 3]), self.library(UNTOUCHED)],
         }
     }
 

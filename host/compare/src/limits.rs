@@ -1,10 +1,10 @@
 //! `derive` on every level, sharpness and key mark.
 
-use crate::random::Random;
 use crate::soak::Calls;
 use crate::tally::Tally;
 use crate::{Plan, ffi};
 use oracle::LoopFilterParams;
+use rules::random::Random;
 
 pub fn compare(_plan: &Plan, tally: &mut Tally) {
     tally.run("derive", &["key", "inter", "limit 255", "interior limit 1"], |kind| {

@@ -15,7 +15,6 @@ mod limits;
 mod numbers;
 mod passes;
 mod pictures;
-mod random;
 mod reach;
 mod recorded;
 mod refusals;

@@ -1,10 +1,10 @@
 //! `u2s` on every byte; `clamp_s8` and `s2u` near 0 and at the ends of i32, in the long run on every i32.
 
-use crate::random::Random;
 use crate::soak::Calls;
 use crate::tally::{Kind, Tally};
 use crate::{Plan, ffi};
 use oracle::loop_filter;
+use rules::random::Random;
 use std::fmt::Display;
 
 const NEAR: u32 = 70_000;
@@ -24,7 +24,7 @@ pub fn compare(plan: &Plan, tally: &mut Tally) {
 /// A call of each on any number, most of them near the limits.
 pub fn draw(random: &mut Random, calls: &mut Calls) -> Result<(), String> {
     const ENDS: [i32; 9] = [i32::MIN, i32::MIN + 1, -129, -128, 0, 127, 128, i32::MAX - 1, i32::MAX];
-    let numbers = [random.one_of(&ENDS), random.below(1024) as i32 - 512, random.next() as i32];
+    let numbers = [random.one_of(&ENDS), random.below(1024) as i32 - 512, random.word() as i32];
     let (byte, v) = (random.byte(), random.one_of(&numbers));
     let outcomes = [
         ("u2s", same(byte, loop_filter::u2s(byte), ffi::u2s(byte))),

@@ -4,13 +4,13 @@
 use crate::Plan;
 use crate::call::{Call, Done, FLAGS, MODES, Memory, Outcome, PASSES, Pass, Planes, RustSteps, SEGMENTS};
 use crate::pictures::{on_layout, picture};
-use crate::random::Random;
 use crate::refusals::Changes;
 use crate::smaller_call::difference;
 use crate::soak::Draw;
 use crate::tally::{Kind, Tally};
 use entries::Layout;
 use oracle::{LoopFilterParams, opened};
+use rules::random::Random;
 
 const CLASSES: [&str; 19] = [
     "filtered",

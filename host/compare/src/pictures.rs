@@ -1,11 +1,11 @@
 //! Random pictures: grids, strides, samples with edges to smooth, lists and settings.
 
-use crate::call::{Call, FLAGS, LARGEST, Pass, Planes, SEGMENTS, SIDE, least_length};
+use crate::call::{Call, FLAGS, LARGEST, Pass, Planes, SEGMENTS, SIDE};
 use crate::guard::SIDES;
-use crate::random::Random;
 use crate::settings;
 use entries::Layout;
 use oracle::FrameFilterConfig;
+use rules::random::Random;
 
 /// A call of the whole pass on a random picture. Bytes outside the grid are random.
 pub fn picture(pass: Pass, columns: usize, rows: usize, random: &mut Random) -> Call {
@@ -64,7 +64,7 @@ pub fn planes(layout: &Layout, random: &mut Random) -> Planes {
             0 => random.below(stride + 40),
             _ => 0,
         };
-        let mut samples: Vec<u8> = (0..least_length(layout, plane) + more).map(|_| random.byte()).collect();
+        let mut samples: Vec<u8> = (0..layout.least_length(plane) + more).map(|_| random.byte()).collect();
         let (width, height) = (SIDE[plane] * layout.columns, SIDE[plane] * layout.rows);
         texture(&mut samples, stride, width, height, random);
         samples

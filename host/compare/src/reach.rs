@@ -8,7 +8,7 @@ use std::ops::Range;
 /// it along its rows, and 3 rows above it along its columns, inside the grid.
 pub fn reached(layout: &Layout, later: Range<usize>) -> [Vec<bool>; 3] {
     std::array::from_fn(|plane| {
-        let (side, stride) = (SIDE[plane], if plane == 0 { layout.y_stride } else { layout.uv_stride });
+        let (side, stride) = (SIDE[plane], layout.stride(plane));
         let mut reached = vec![false; side * layout.rows * stride];
         for m in later.clone() {
             let (top, left) = (m / layout.columns * side, m % layout.columns * side);

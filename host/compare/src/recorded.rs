@@ -5,10 +5,10 @@ use crate::Plan;
 use crate::call::{Call, Done, Memory, Outcome, Pass, Planes};
 use crate::guard::SIDES;
 use crate::passes::{same, stepped_to};
-use crate::random::Random;
 use crate::tally::{Kind, Tally};
 use entries::Layout;
 use film::{Frame, Stream};
+use rules::random::Random;
 use std::fs;
 use std::path::Path;
 

@@ -1,13 +1,13 @@
 //! Every refusal of both passes, alone, with a second one and with many: the first in document 01's order comes, and
 //! no lent byte changes.
 
-use crate::call::{Call, LARGEST, Memory, PASSES, Pass, least_length};
+use crate::Plan;
+use crate::call::{Call, LARGEST, Memory, PASSES, Pass};
 use crate::passes::{rounds, same};
 use crate::pictures::picture;
-use crate::random::Random;
 use crate::tally::{Kind, Tally};
-use crate::{Plan, ffi};
 use entries::Layout;
+use rules::random::Random;
 
 const CLASSES: [&str; 10] = [
     "refused: 1",
@@ -45,9 +45,9 @@ impl Changes {
         changes.add_layouts();
         changes.add_planes();
         changes.add_lists(pass);
-        changes.add(ffi::START_TOO_LARGE, |call, _| call.start = after_last(call).saturating_add(1));
-        changes.add(ffi::START_TOO_LARGE, |call, _| call.start = 1 << 32);
-        changes.add(ffi::START_TOO_LARGE, |call, _| call.start = usize::MAX);
+        changes.add(rules::START_TOO_LARGE, |call, _| call.start = after_last(call).saturating_add(1));
+        changes.add(rules::START_TOO_LARGE, |call, _| call.start = 1 << 32);
+        changes.add(rules::START_TOO_LARGE, |call, _| call.start = usize::MAX);
         changes.add(0, |call, _| call.start = after_last(call));
         changes.add(0, |call, _| call.allowance = 1 << 32);
         changes.add(0, |call, _| call.allowance = usize::MAX);
@@ -58,23 +58,23 @@ impl Changes {
     }
 
     fn add_layouts(&mut self) {
-        self.add(ffi::GRID_TOO_LARGE, |call, _| call.layout.columns = 1025);
-        self.add(ffi::GRID_TOO_LARGE, |call, _| call.layout.rows = 1025);
-        self.add(ffi::GRID_TOO_LARGE, |call, _| call.layout.columns = usize::MAX);
-        self.add(ffi::GRID_TOO_LARGE, |call, _| call.layout.rows = usize::MAX);
-        self.add(ffi::GRID_TOO_LARGE, |call, _| call.layout.columns |= 1 << 60);
-        self.add(ffi::GRID_TOO_LARGE, |call, _| call.layout.rows |= 1 << 32);
-        self.add(ffi::GRID_TOO_LARGE, |call, _| (call.layout.columns, call.layout.rows) = (1 << 32, 1 << 32));
-        self.add(ffi::BAD_STRIDE, |call, _| call.layout.y_stride = call.layout.columns.saturating_mul(16) - 1);
-        self.add(ffi::BAD_STRIDE, |call, _| call.layout.uv_stride = call.layout.columns.saturating_mul(8) - 1);
+        self.add(rules::GRID_TOO_LARGE, |call, _| call.layout.columns = 1025);
+        self.add(rules::GRID_TOO_LARGE, |call, _| call.layout.rows = 1025);
+        self.add(rules::GRID_TOO_LARGE, |call, _| call.layout.columns = usize::MAX);
+        self.add(rules::GRID_TOO_LARGE, |call, _| call.layout.rows = usize::MAX);
+        self.add(rules::GRID_TOO_LARGE, |call, _| call.layout.columns |= 1 << 60);
+        self.add(rules::GRID_TOO_LARGE, |call, _| call.layout.rows |= 1 << 32);
+        self.add(rules::GRID_TOO_LARGE, |call, _| (call.layout.columns, call.layout.rows) = (1 << 32, 1 << 32));
+        self.add(rules::BAD_STRIDE, |call, _| call.layout.y_stride = call.layout.columns.saturating_mul(16) - 1);
+        self.add(rules::BAD_STRIDE, |call, _| call.layout.uv_stride = call.layout.columns.saturating_mul(8) - 1);
         for stride in [0, 65_537, 1 << 32 | 65_536, usize::MAX] {
-            self.add(ffi::BAD_STRIDE, move |call, _| call.layout.y_stride = stride);
-            self.add(ffi::BAD_STRIDE, move |call, _| call.layout.uv_stride = stride);
+            self.add(rules::BAD_STRIDE, move |call, _| call.layout.y_stride = stride);
+            self.add(rules::BAD_STRIDE, move |call, _| call.layout.uv_stride = stride);
         }
         // The largest grid is not refused by 1, nor the largest strides by 2.
         for (y_stride, uv_stride) in [(16_384, 8_192), (65_536, 65_536)] {
             let layout = Layout { columns: 1024, rows: 1024, y_stride, uv_stride };
-            self.add(ffi::SHORT_PLANE, move |call, _| call.layout = layout);
+            self.add(rules::SHORT_PLANE, move |call, _| call.layout = layout);
         }
     }
 
@@ -84,12 +84,12 @@ impl Changes {
             let shorten = move |call: &mut Call, len: fn(usize) -> usize| {
                 let Layout { columns, rows, y_stride, uv_stride } = call.layout;
                 let bounded = columns.max(rows) <= 1024 && y_stride.max(uv_stride) <= 65_536;
-                let least = if bounded { least_length(&call.layout, plane) } else { 1 };
+                let least = if bounded { call.layout.least_length(plane) } else { 1 };
                 call.planes[plane].truncate(len(least));
             };
             self.add(0, move |call, _| shorten(call, |least| least));
-            self.add(ffi::SHORT_PLANE, move |call, _| shorten(call, |least| least - 1));
-            self.add(ffi::SHORT_PLANE, move |call, _| shorten(call, |_| 0));
+            self.add(rules::SHORT_PLANE, move |call, _| shorten(call, |least| least - 1));
+            self.add(rules::SHORT_PLANE, move |call, _| shorten(call, |_| 0));
         }
     }
 
@@ -97,14 +97,14 @@ impl Changes {
         for (list, largest) in LARGEST.into_iter().enumerate() {
             let read = pass == Pass::Inter || list < 3;
             let refused = |number: u8| if read { number } else { 0 };
-            self.add(refused(ffi::WRONG_LENGTH), move |call, _| call.lists[list].push(0));
-            self.add(refused(ffi::WRONG_LENGTH), move |call, _| _ = call.lists[list].pop());
-            self.add(refused(ffi::WRONG_LENGTH), move |call, _| call.lists[list].clear());
+            self.add(refused(rules::WRONG_LENGTH), move |call, _| call.lists[list].push(0));
+            self.add(refused(rules::WRONG_LENGTH), move |call, _| _ = call.lists[list].pop());
+            self.add(refused(rules::WRONG_LENGTH), move |call, _| call.lists[list].clear());
             match largest {
                 255 => self.add(0, move |call, random| put(call, list, 255, random)),
                 _ => {
-                    self.add(refused(ffi::BAD_ENTRY), move |call, random| put(call, list, largest + 1, random));
-                    self.add(refused(ffi::BAD_ENTRY), move |call, random| put(call, list, 255, random));
+                    self.add(refused(rules::BAD_ENTRY), move |call, random| put(call, list, largest + 1, random));
+                    self.add(refused(rules::BAD_ENTRY), move |call, random| put(call, list, 255, random));
                 }
             }
         }

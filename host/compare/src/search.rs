@@ -2,16 +2,16 @@
 //! the answers of all entries, the number of candidates, every scratch sample, and that nothing else moved.
 
 use crate::Plan;
-use crate::call::{Call, LARGEST, PASSES, Pass, Planes, SIDE, least_length, run_rust};
+use crate::call::{Call, LARGEST, PASSES, Pass, Planes, SIDE, run_rust};
 use crate::ffi::{self, Choice, Lists, Sought, Source};
 use crate::guard::{self, Guarded};
 use crate::pictures::picture;
-use crate::random::Random;
 use crate::recorded;
 use crate::settings;
 use crate::soak::Draw;
 use crate::tally::{Kind, Tally};
 use oracle::{InterFilterInfo, KeyframePlanes, SourcePlanes, loop_filter};
+use rules::random::Random;
 use std::fmt;
 
 /// What the out-parameters hold before a call.
@@ -91,63 +91,34 @@ impl Memory {
 }
 
 impl Search {
-    /// Samples of a source row, and rows, in a plane.
-    fn visible(&self, plane: usize) -> (usize, usize) {
-        match plane {
-            0 => (self.width, self.height),
-            _ => (self.width.div_ceil(2), self.height.div_ceil(2)),
-        }
-    }
-
     fn has_grid(&self) -> bool {
-        self.call.layout.columns > 0 && self.call.layout.rows > 0
+        self.call.layout.has_grid()
     }
 
     fn right_lengths(&self) -> bool {
         let n = self.call.macroblocks();
-        self.call.lists[..self.call.lists_read()].iter().all(|list| list.len() == n)
+        self.call.lists_read().iter().all(|list| list.len() == n)
+    }
+
+    /// Its numbers.
+    fn source(&self) -> rules::Source {
+        let [y_stride, uv_stride, _] = self.strides;
+        let lengths = self.source.each_ref().map(Vec::len);
+        rules::Source { width: self.width, height: self.height, y_stride, uv_stride, lengths }
     }
 
     /// 1, 2, 3 of each of the planes, 8, 9, in this order; or 0.
     fn refusal_of(&self, lent: &[&Planes]) -> u8 {
-        let layout = &self.call.layout;
-        let (columns, rows) = (layout.columns, layout.rows);
-        if self.has_grid() {
-            if columns > 1024 || rows > 1024 {
-                return ffi::GRID_TOO_LARGE;
-            }
-            let stride = |plane| self.call.stride(plane);
-            if (0..3).any(|plane| stride(plane) < SIDE[plane] * columns || stride(plane) > 65_536) {
-                return ffi::BAD_STRIDE;
-            }
-            let short = |planes: &&Planes| (0..3).any(|plane| planes[plane].len() < least_length(layout, plane));
-            if lent.iter().any(short) {
-                return ffi::SHORT_PLANE;
-            }
-        }
-        let over = |size: usize, macroblocks: usize| size as u128 > 16 * macroblocks as u128;
-        if over(self.width, columns) || over(self.height, rows) {
-            return ffi::SOURCE_TOO_LARGE;
-        }
-        if self.width > 0 && self.height > 0 && (0..3).any(|plane| self.bad_source(plane)) {
-            return ffi::BAD_SOURCE;
-        }
-        0
+        let lent: Vec<_> = lent.iter().map(|planes| planes.each_ref().map(Vec::len)).collect();
+        self.source().refusal(&self.call.layout, &lent).err().unwrap_or(0)
     }
 
     /// Document 01's conditions in the order of a search.
     fn refusal(&self) -> u8 {
-        let bad = |(list, largest): (&Vec<u8>, u8)| list.iter().any(|byte| *byte > largest);
-        let lists = &self.call.lists[..self.call.lists_read()];
         match self.refusal_of(&[&self.call.planes, &self.scratch]) {
-            0 if self.has_grid() && self.right_lengths() && lists.iter().zip(LARGEST).any(bad) => ffi::BAD_ENTRY,
+            0 if self.has_grid() && self.right_lengths() && self.call.bad_entry() => rules::BAD_ENTRY,
             number => number,
         }
-    }
-
-    fn bad_source(&self, plane: usize) -> bool {
-        let ((wide, high), stride) = (self.visible(plane), self.strides[plane]);
-        stride < wide || stride > 65_536 || self.source[plane].len() < (high - 1) * stride + wide
     }
 
     fn expected(&self) -> Outcome {
@@ -203,31 +174,7 @@ impl Search {
 
     /// Document 01, Search: level, sharpness and count. Every sum is the Rust's.
     fn by_the_rule(&self) -> (u8, u8, usize) {
-        let base = self.call.config.sharpness_level.min(7);
-        let (mut best, mut count) = ((0, base, self.sum(&self.candidate(0, base))), 0);
-        let mut consider = |best: &mut (u8, u8, u64), level: u8, sharpness: u8| {
-            count += (level > 0) as usize;
-            let sum = self.sum(&self.candidate(level, sharpness));
-            if sum < best.2 {
-                *best = (level, sharpness, sum);
-            }
-        };
-        for level in (4..=60).step_by(4).chain([63]) {
-            consider(&mut best, level, base);
-        }
-        let winner = best.0;
-        for level in (0..=63u8).filter(|level| level.abs_diff(winner) <= 3) {
-            if level != best.0 {
-                consider(&mut best, level, base);
-            }
-        }
-        if best.0 > 0 {
-            let level = best.0;
-            for sharpness in (0..=7).filter(|sharpness| *sharpness != base) {
-                consider(&mut best, level, sharpness);
-            }
-        }
-        (best.0, best.1, count)
+        rules::choice(self.call.config.sharpness_level, |level, sharpness| self.sum(&self.candidate(level, sharpness)))
     }
 
     /// What the Rust's own search answers, where it has one: level and sharpness.
@@ -361,7 +308,7 @@ fn search(pass: Pass, random: &mut Random) -> Search {
     let like = search.candidate(level, random.below(8) as u8);
     let (like, noise) = ([&like.y, &like.u, &like.v], random.one_of(&[1, 1, 2, 4, 256]));
     search.source = std::array::from_fn(|plane| {
-        let ((wide, high), stride) = (search.visible(plane), strides[plane]);
+        let ((wide, high), stride) = (search.source().visible(plane), strides[plane]);
         let length = if width == 0 || height == 0 { random.below(9) } else { (high - 1) * stride + wide };
         let sample = |i: usize| {
             let at = i / stride.max(1) * search.call.stride(plane) + i % stride.max(1);
@@ -386,7 +333,7 @@ fn pictures(plan: &Plan, pass: Pass, kind: &mut Kind) -> Result<(), String> {
     rounds(plan, if plan.long { 200_000 } else { 6_000 }, kind, |random, memory, kind| {
         let mut search = search(pass, random);
         if random.below(20) == 0 {
-            let list = random.below(search.call.lists_read());
+            let list = random.below(search.call.lists_read().len());
             search.call.lists[list].push(0);
         }
         let outcome = search.same(memory)?;
@@ -460,7 +407,7 @@ fn damage(search: &mut Search, random: &mut Random) {
         3 => search.call.layout.uv_stride = random.one_of(&[(8 * layout.columns.min(1024)).wrapping_sub(1), 65_537]),
         4 if layout.columns.min(layout.rows) > 0 && layout.columns.max(layout.rows) <= 3 => {
             let planes = if random.below(2) == 0 { &mut search.call.planes } else { &mut search.scratch };
-            shortened(&mut planes[plane], least_length(&layout, plane));
+            shortened(&mut planes[plane], layout.least_length(plane));
         }
         5 => search.width = random.one_of(&[0, 16 * layout.columns.min(1024) + 1, usize::MAX]),
         6 => search.height = random.one_of(&[0, 16 * layout.rows.min(1024) + 1, usize::MAX]),

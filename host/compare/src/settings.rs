@@ -1,8 +1,8 @@
 //! Settings of a frame: random and extreme numbers, every setting of the marks.
 
-use crate::random::Random;
 use crate::shrink::smaller_bytes;
 use oracle::FrameFilterConfig;
+use rules::random::Random;
 
 /// How many ways there are to set the marks.
 pub const MARKS: u32 = 32;
@@ -59,7 +59,7 @@ fn with_deltas(random: &mut Random, mut delta: impl FnMut(&mut Random) -> i16) -
 fn delta(random: &mut Random) -> i16 {
     match random.below(4) {
         0 => extreme_delta(random),
-        1 => random.next() as i16,
+        1 => random.word() as i16,
         _ => small_delta(random),
     }
 }

@@ -1,6 +1,6 @@
 //! Smaller calls that still differ.
 
-use crate::call::{Call, Memory, Outcome, SIDE, least_length};
+use crate::call::{Call, Memory, Outcome, SIDE};
 use crate::settings;
 use crate::shrink::{Cases, shrink, smaller_bytes};
 use entries::Layout;
@@ -100,7 +100,7 @@ fn samples(call: &Call) -> impl Iterator<Item = Call> {
         let samples = &call.planes[plane];
         let stride = call.stride(plane).clamp(1, samples.len().max(1));
         let smallest = samples.iter().copied().min().unwrap_or(0);
-        let least = if call.rule().is_ok() && call.macroblocks() > 0 { least_length(&call.layout, plane) } else { 0 };
+        let least = if call.rule().is_ok() && call.macroblocks() > 0 { call.layout.least_length(plane) } else { 0 };
         let shorter = (samples.len() > least).then(|| with(plane, samples[..least].to_vec()));
         let lower = smaller_bytes(smallest)
             .map(move |lowest| with(plane, samples.iter().map(|sample| sample - smallest + lowest).collect()));

@@ -1,9 +1,9 @@
 //! Random calls of every entry, valid and damaged, one after the other until the time is up. A seed determines which.
 
 use crate::call::PASSES;
-use crate::random::Random;
 use crate::tally::grouped;
 use crate::{coefficients, final_rows, kernels, levels, limits, numbers, passes, search};
+use rules::random::Random;
 use std::process::ExitCode;
 use std::time::{Duration, Instant, SystemTime, UNIX_EPOCH};
 
@@ -172,7 +172,7 @@ mod tests {
     fn after_turns(turns: usize, seed: u64) -> (Calls, u64) {
         let mut soak = Soak::new(seed);
         (0..turns).for_each(|_| soak.turn(|| true).expect("all equal"));
-        (soak.calls, soak.random.next())
+        (soak.calls, soak.random.word())
     }
 
     #[test]

@@ -6,18 +6,9 @@ use oracle::FrameFilterConfig;
 use vp8_loop_filter::entries::{self as lent, ByteLists};
 use vp8_loop_filter::{Planes, PlanesMut, Scratch, SourcePlanes};
 
-pub use lent::{clamp_s8, common_adjust, derive, mb_filter, mb_has_coeffs, s2u, simple_segment, subblock_filter, u2s};
+pub use rules::Layout;
 
-/// The numbers of document 01's refusals.
-pub const GRID_TOO_LARGE: u8 = 1;
-pub const BAD_STRIDE: u8 = 2;
-pub const SHORT_PLANE: u8 = 3;
-pub const NO_WINDOW: u8 = 4;
-pub const WRONG_LENGTH: u8 = 5;
-pub const BAD_ENTRY: u8 = 6;
-pub const START_TOO_LARGE: u8 = 7;
-pub const SOURCE_TOO_LARGE: u8 = 8;
-pub const BAD_SOURCE: u8 = 9;
+pub use lent::{clamp_s8, common_adjust, derive, mb_filter, mb_has_coeffs, s2u, simple_segment, subblock_filter, u2s};
 
 /// Which pass an entry runs.
 #[derive(Clone, Copy, Debug, PartialEq)]
@@ -34,15 +25,6 @@ impl Pass {
             Pass::Inter => "filter_inter_frame",
         }
     }
-}
-
-/// Columns and rows of macroblocks, and the strides of the planes.
-#[derive(Clone, Copy, Debug, PartialEq)]
-pub struct Layout {
-    pub columns: usize,
-    pub rows: usize,
-    pub y_stride: usize,
-    pub uv_stride: usize,
 }
 
 /// One byte a macroblock in each list. The key pass reads the first three.

@@ -7,14 +7,13 @@
 mod bytes;
 mod passes;
 mod picture;
-mod random;
 mod recorded_film;
 mod search;
 mod settings;
 mod small;
 
 use bytes::Bytes;
-use random::Random;
+use rules::random::Random;
 use std::path::Path;
 use std::process::ExitCode;
 

@@ -3,9 +3,8 @@
 use crate::Section;
 use crate::bytes::Bytes;
 use crate::picture::{self, Answer, LENGTHS, Layout, Lists, PASSES, Pass, Picture, Planes, Records};
-use crate::random::Random;
 use crate::settings;
-use crate::small;
+use rules::random::Random;
 
 /// What a call of a pass answers and leaves, by document 01 and the Rust.
 fn expected(picture: &Picture, answer: Answer) -> Planes {
@@ -70,7 +69,7 @@ pub fn drawn(random: &mut Random, pass: Pass, i: usize) -> (Picture, Lists) {
 fn ordinary(random: &mut Random, pass: Pass, i: usize) -> Bytes {
     let (drawn, lists) = drawn(random, pass, i);
     let (start, allowance) = [(0, usize::MAX), (0, 4), (0, 5), (1, 2), (3, usize::MAX)][i % 5];
-    let answer = picture::rule(&drawn.layout, LENGTHS, 4, false, start, allowance);
+    let answer = picture::rule(&drawn.layout, false, start, allowance);
     let after = expected(&drawn, answer);
     let head = Bytes::default().place(&drawn.layout, start, allowance).settings(&drawn.config);
     let head = lists.0.iter().fold(head, |head, list| head.bytes(list)).answer(answer);
@@ -87,13 +86,13 @@ fn halted(random: &mut Random, pass: Pass, i: usize) -> Bytes {
         middle = drawn.steps(0..allowance);
     }
     let (layout, whole) = (drawn.layout, drawn.unbroken());
-    let [luma, chroma] = small::leading_rows(&layout, allowance).expect("a start in the grid");
+    let [luma, chroma] = rules::final_rows(&layout, allowance).expect("a start in the grid");
     for (p, rows) in [luma, chroma, chroma].into_iter().enumerate() {
         let last = rows * layout.stride(p);
         assert!(middle[p][..last] == whole[p][..last], "the rows that are final stay");
     }
-    let first = picture::rule(&layout, LENGTHS, 4, false, 0, allowance);
-    let second = picture::rule(&layout, LENGTHS, 4, false, allowance, usize::MAX);
+    let first = picture::rule(&layout, false, 0, allowance);
+    let second = picture::rule(&layout, false, allowance, usize::MAX);
     let head = Bytes::default().place(&layout, 0, allowance).settings(&drawn.config);
     let head = planes(lists.0.iter().fold(head, |head, list| head.bytes(list)), &drawn.planes);
     planes(planes(head.answer(first), &middle).answer(second), &whole)
@@ -152,7 +151,7 @@ fn idle(random: &mut Random, pass: Pass) -> Vec<Bytes> {
         let (start, allowance) = boundary_start(random);
         let config = quiet(random);
         let bad = lists.bad(pass);
-        let answer = picture::rule(&layout, LENGTHS, 4, bad, start, allowance);
+        let answer = picture::rule(&layout, bad, start, allowance);
         let records = if bad { Records::new() } else { lists.records(pass) };
         if leaves_stripes(pass, layout, records, config, answer) {
             let head = Bytes::default().place(&layout, start, allowance).settings(&config);
@@ -256,7 +255,7 @@ fn over_records(random: &mut Random, pass: Pass, i: usize) -> Bytes {
     let planes_before = picture::telling_planes(random, &layout);
     let drawn = Picture { pass, layout, planes: planes_before, records, config };
     let (start, allowance) = if i % 6 == 5 { (1, 2) } else { (0, usize::MAX) };
-    let answer = picture::rule(&layout, LENGTHS, 4, false, start, allowance);
+    let answer = picture::rule(&layout, false, start, allowance);
     let after = expected(&drawn, answer);
     let head = Bytes::default().place(&layout, start, allowance).settings(&config).bytes(&bytes).answer(answer);
     planes(planes(head, &drawn.planes), &after)
@@ -268,7 +267,7 @@ fn idle_records(random: &mut Random, pass: Pass) -> Vec<Bytes> {
         let (layout, config) = (boundary(random), quiet(random));
         let (start, allowance) = boundary_start(random);
         let (records, bytes) = record_list(random.below(840));
-        let answer = picture::rule(&layout, LENGTHS, 4, false, start, allowance);
+        let answer = picture::rule(&layout, false, start, allowance);
         if leaves_stripes(pass, layout, records, config, answer) {
             let head = Bytes::default().place(&layout, start, allowance).settings(&config);
             kept.offer(answer, head.bytes(&bytes).answer(answer));

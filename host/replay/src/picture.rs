@@ -1,8 +1,9 @@
 //! Pictures, what the Rust makes of them, and document 01's conditions for a call of a pass.
 
-use crate::random::Random;
 use oracle::{FrameFilterConfig, InterMode, IntraUvMode, IntraYMode, KeyframePlanes, MacroblockModes, RefFrame};
 use oracle::{filter_frame_flags, filter_inter_frame_flags, loop_filter};
+use rules::random::Random;
+pub use rules::{LARGEST, Layout, SIDE};
 
 /// y, u and v.
 pub type Planes = [Vec<u8>; 3];
@@ -11,45 +12,8 @@ pub type Planes = [Vec<u8>; 3];
 pub const LENGTHS: [usize; 3] = [1280, 352, 348];
 pub const SCRATCH: [usize; 3] = [1264, 344, 352];
 
-/// How many samples wide and high a macroblock is in y, u and v.
-pub const SIDE: [usize; 3] = [16, 8, 8];
-
 /// The number of a refusal, or two numbers.
 pub type Answer = Result<[usize; 2], u8>;
-
-#[derive(Clone, Copy, Debug, PartialEq)]
-pub struct Layout {
-    pub columns: usize,
-    pub rows: usize,
-    pub y_stride: usize,
-    pub uv_stride: usize,
-}
-
-impl Layout {
-    pub fn stride(&self, plane: usize) -> usize {
-        if plane == 0 { self.y_stride } else { self.uv_stride }
-    }
-
-    pub fn has_grid(&self) -> bool {
-        self.columns > 0 && self.rows > 0
-    }
-
-    /// Document 01, refusals 1, 2 and 3, for planes of these lengths.
-    pub fn refusal(&self, lengths: &[[usize; 3]]) -> Result<(), u8> {
-        let Layout { columns, rows, .. } = *self;
-        if columns > 1024 || rows > 1024 {
-            return Err(1);
-        }
-        if (0..3).any(|p| self.stride(p) < SIDE[p] * columns || self.stride(p) > 65_536) {
-            return Err(2);
-        }
-        let least = |p: usize| (SIDE[p] * rows - 1) * self.stride(p) + SIDE[p] * columns;
-        if lengths.iter().any(|lengths| (0..3).any(|p| lengths[p] < least(p))) {
-            return Err(3);
-        }
-        Ok(())
-    }
-}
 
 #[derive(Clone, Copy, Debug, PartialEq)]
 pub enum Pass {
@@ -121,8 +85,8 @@ pub struct Lists(pub [Vec<u8>; 5]);
 impl Lists {
     /// Document 01, refusal 6, in the lists that the pass reads.
     pub fn bad(&self, pass: Pass) -> bool {
-        let above = |list: usize, largest: u8| self.0[list].iter().any(|byte| *byte > largest);
-        above(0, 4) || pass == Pass::Inter && (above(3, 3) || above(4, 5))
+        let read = if pass == Pass::Key { &self.0[..3] } else { &self.0 };
+        read.iter().zip(LARGEST).any(|(list, largest)| list.iter().any(|byte| *byte > largest))
     }
 
     /// The Rust's records, where 6 does not refuse. A key pass reads neither references nor inter modes.
@@ -203,25 +167,10 @@ impl Picture {
     }
 }
 
-/// Document 01, refusals of a pass in their order, or count and next start; for planes of the program's lengths and
-/// lists of `listed` entries, of which 6 refuses some if `bad`.
-pub fn rule(layout: &Layout, lengths: [usize; 3], listed: usize, bad: bool, start: usize, allowance: usize) -> Answer {
-    if !layout.has_grid() {
-        return Ok([0, 0]);
-    }
-    layout.refusal(&[lengths])?;
-    let n = layout.columns * layout.rows;
-    if listed != n {
-        return Err(5);
-    }
-    if bad {
-        return Err(6);
-    }
-    if start > n {
-        return Err(7);
-    }
-    let count = allowance.min(n - start);
-    Ok([count, start + count])
+/// Document 01's answer of a pass on planes of the program's lengths and lists of four entries, of which 6 refuses some if
+/// `bad`.
+pub fn rule(layout: &Layout, bad: bool, start: usize, allowance: usize) -> Answer {
+    rules::pass(layout, LENGTHS, |n| n != 4, bad, start, allowance)
 }
 
 /// A grid of four macroblocks whose planes fit the program's, scratch planes too.

@@ -2,7 +2,7 @@
 
 use crate::Section;
 use crate::bytes::Bytes;
-use crate::picture::{self, Layout, Lists, PASSES, Pass, Picture, SIDE};
+use crate::picture::{Layout, Lists, PASSES, Pass, Picture, SIDE};
 use film::Frame;
 
 /// Stream and place of the frames that are recorded. Both filters, segments of both kinds, every reference and rewritten
@@ -53,7 +53,8 @@ fn record(frame: &Frame, pass: Pass) -> Bytes {
     let after = Picture { pass, layout, planes, records, config }.unbroken();
     assert_eq!(film::checksum(&after), frame.after, "the film's checksum");
     let n = columns * rows;
-    let answer = picture::rule(&layout, SIDE.map(|side| side * side * n), n, lists.bad(pass), 0, usize::MAX);
+    let answer =
+        rules::pass(&layout, SIDE.map(|side| side * side * n), |listed| listed != n, lists.bad(pass), 0, usize::MAX);
     let head = Bytes::default().place(&layout, 0, usize::MAX).settings(&config).answer(answer);
     let lists_and_planes = lists.0.iter().chain(&frame.planes).chain(&after);
     lists_and_planes.fold(head, |bytes, part| bytes.bytes(part))

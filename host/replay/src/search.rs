@@ -4,8 +4,8 @@ use crate::Section;
 use crate::bytes::Bytes;
 use crate::passes::{Kept, boundary, boundary_lists, drawn};
 use crate::picture::{self, Answer, LENGTHS, Layout, Lists, PASSES, Pass, Picture, Planes, Records, SCRATCH, SIDE};
-use crate::random::Random;
 use oracle::{InterFilterInfo, KeyframePlanes, SourcePlanes, loop_filter};
+use rules::random::Random;
 
 pub fn sections(random: &mut Random) -> Vec<Section> {
     let mut sections = Vec::new();
@@ -41,29 +41,16 @@ struct Search {
 type Choice = (u8, u8, usize);
 
 impl Search {
-    /// Samples of a source row, and rows, in a plane.
-    fn visible(&self, p: usize) -> (usize, usize) {
-        if p == 0 { (self.width, self.height) } else { (self.width.div_ceil(2), self.height.div_ceil(2)) }
-    }
-
-    fn bad_source(&self, p: usize) -> bool {
-        let ((wide, high), stride) = (self.visible(p), self.strides[p.min(1)]);
-        stride < wide || stride > 65_536 || self.source[p].len() < (high - 1) * stride + wide
+    /// The numbers of the source.
+    fn source(&self) -> rules::Source {
+        let [y_stride, uv_stride] = self.strides;
+        let lengths = self.source.each_ref().map(Vec::len);
+        rules::Source { width: self.width, height: self.height, y_stride, uv_stride, lengths }
     }
 
     /// Document 01: 1, 2 and 3 for planes of these lengths, passed over without a grid; 8; 9.
     fn refusal(&self, lengths: &[[usize; 3]]) -> Result<(), u8> {
-        let layout = &self.picture.layout;
-        if layout.has_grid() {
-            layout.refusal(lengths)?;
-        }
-        if self.width.div_ceil(16) > layout.columns || self.height.div_ceil(16) > layout.rows {
-            return Err(8);
-        }
-        if self.width > 0 && self.height > 0 && (0..3).any(|p| self.bad_source(p)) {
-            return Err(9);
-        }
-        Ok(())
+        self.source().refusal(&self.picture.layout, lengths)
     }
 
     fn right_lengths(&self) -> bool {
@@ -102,29 +89,8 @@ impl Search {
 
     /// Document 01, Search: level, sharpness and count. Every sum is the Rust's.
     fn by_the_rule(&self) -> Choice {
-        let base = self.picture.config.sharpness_level.min(7);
-        let (mut best, mut count) = ((0, base, self.sum(self.candidate(0, base))), 0);
-        let mut consider = |best: &mut (u8, u8, u64), level: u8, sharpness: u8| {
-            count += (level > 0) as usize;
-            let sum = self.sum(self.candidate(level, sharpness));
-            if sum < best.2 {
-                *best = (level, sharpness, sum);
-            }
-        };
-        for level in (4..=60).step_by(4).chain([63]) {
-            consider(&mut best, level, base);
-        }
-        let winner = best.0;
-        for level in (0..=63u8).filter(|level| level.abs_diff(winner) <= 3) {
-            if level != best.0 {
-                consider(&mut best, level, base);
-            }
-        }
-        if best.0 > 0 {
-            let level = best.0;
-            (0..=7).filter(|sharpness| *sharpness != base).for_each(|sharpness| consider(&mut best, level, sharpness));
-        }
-        (best.0, best.1, count)
+        let sum = |level, sharpness| self.sum(self.candidate(level, sharpness));
+        rules::choice(self.picture.config.sharpness_level, sum)
     }
 
     /// The Rust's own search, where it has one, chooses the same.

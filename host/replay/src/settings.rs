@@ -1,14 +1,14 @@
 //! Settings of a frame.
 
-use crate::random::Random;
 use oracle::FrameFilterConfig;
+use rules::random::Random;
 
 /// Levels and deltas as a frame header has them: 6 bits and a sign. All marks are random.
 pub fn usual(random: &mut Random) -> FrameFilterConfig {
     let config = FrameFilterConfig::default()
         .with_loop_filter_level(8 + random.below(56) as u8)
         .with_sharpness_level(random.below(8) as u8);
-    with_marks(with_deltas(config, || random.below(41) as i16 - 20), random.next())
+    with_marks(with_deltas(config, || random.below(41) as i16 - 20), random.word())
 }
 
 /// Any header bytes and deltas, often extreme ones.
@@ -19,10 +19,10 @@ pub fn any(random: &mut Random) -> FrameFilterConfig {
         .with_sharpness_level(random.one_of(&[0, 1, 4, 5, 7, 8, 255]));
     let delta = || match random.below(3) {
         0 => random.one_of(&ENDS),
-        1 => random.next() as i16,
+        1 => random.word() as i16,
         _ => random.below(127) as i16 - 63,
     };
-    with_marks(with_deltas(config, delta), random.next())
+    with_marks(with_deltas(config, delta), random.word())
 }
 
 /// The marks are the bits of a number.

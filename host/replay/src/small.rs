@@ -2,10 +2,10 @@
 
 use crate::Section;
 use crate::bytes::Bytes;
-use crate::picture::{Answer, Layout, Pass, Records};
-use crate::random::Random;
+use crate::picture::{Layout, Pass, Records};
 use crate::settings;
 use oracle::{LoopFilterParams, MbCoeffs, loop_filter};
+use rules::random::Random;
 
 pub fn sections(random: &mut Random) -> Vec<Section> {
     let numbers: Vec<i32> = integers(random);
@@ -30,7 +30,7 @@ pub fn sections(random: &mut Random) -> Vec<Section> {
 
 fn integers(random: &mut Random) -> Vec<i32> {
     let ends = [i32::MIN, i32::MIN + 1, i32::MAX - 1, i32::MAX, -65_536, -32_768, 32_767, 65_536];
-    (-300..=300).chain(ends).chain((0..32).map(|_| random.next() as i32)).collect()
+    (-300..=300).chain(ends).chain((0..32).map(|_| random.word() as i32)).collect()
 }
 
 /// Every level of a frame header with every sharpness and more; then levels above 63.
@@ -196,32 +196,12 @@ fn coefficients(random: &mut Random) -> Vec<Bytes> {
     records
 }
 
-/// Zero columns or rows first, then 1, then 7; then the first row that a macroblock from the start on can reach, or the
-/// end of the grid. The strides are not read.
-pub fn leading_rows(layout: &Layout, start: usize) -> Answer {
-    let Layout { columns, rows, .. } = *layout;
-    if !layout.has_grid() {
-        return Ok([0, 0]);
-    }
-    if columns > 1024 || rows > 1024 {
-        return Err(1);
-    }
-    if start > columns * rows {
-        return Err(7);
-    }
-    let first = |side: usize| {
-        let top = |m: usize| (m / columns * side).saturating_sub(3);
-        (start..columns * rows).map(top).min().unwrap_or(rows * side)
-    };
-    Ok([first(16), first(8)])
-}
-
 fn final_rows(random: &mut Random) -> Vec<Bytes> {
     let mut records = Vec::new();
     let mut record = |columns: usize, rows: usize, start: usize| {
         let mut stride = || random.one_of(&[0, 1, 16, 64, 65_536, 65_537, usize::MAX]);
         let layout = Layout { columns, rows, y_stride: stride(), uv_stride: stride() };
-        let answer = leading_rows(&layout, start);
+        let answer = rules::final_rows(&layout, start);
         records.push(Bytes::default().place(&layout, start, 0).answer(answer));
     };
     for (columns, rows) in [(1, 1), (1, 4), (4, 1), (2, 3), (3, 3), (5, 4)] {

@@ -1,10 +1,11 @@
 // Figures M, N and O of document 01, executed.
-use frame::answers::PassAnswer;
-use frame::layout::PlaneLayout;
+use calls::answers::PassAnswer;
+use calls::answers::pass_refusal_number;
 use frame::pass::filter_frame;
 use frame::pass::filter_inter_frame;
 use levels::config::FrameFilterConfig;
 use libc::STDOUT_FILENO;
+use planes::layout::PlaneLayout;
 ghost use Prim.Native.Nat.{_≤_};
 
 fn settings(simple: bool, level: u8) -> FrameFilterConfig {
@@ -152,11 +153,9 @@ fn show_answer(answer: PassAnswer) {
             io::write_all(STDOUT_FILENO, b", next ");
             io::print_decimal(STDOUT_FILENO, next as u64);
         }
-        PassAnswer::StartBeyond => {
-            io::write_all(STDOUT_FILENO, b"refused with 7");
-        }
-        _ => {
-            io::write_all(STDOUT_FILENO, b"refused otherwise");
+        PassAnswer::Refused(refusal) => {
+            io::write_all(STDOUT_FILENO, b"refused with ");
+            io::print_decimal(STDOUT_FILENO, pass_refusal_number(refusal) as u64);
         }
     }
     io::write_all(STDOUT_FILENO, b"\n");

@@ -7,13 +7,13 @@ use native.Mathlib.Omega.{arith}
 use lib.ListN.{length}
 use borrow.Rule.Slice.PartMut.{midOf, putMid}
 use Rattle.kernels.specs.Segment.{half, taps, segment, windowed}
-use Rattle.frame.specs.Steps.{steps}
-use Rattle.frame.specs.Planes.{Planes, Grid, side, stride, plane, StridesHold, PlanesHold}
-use Rattle.frame.specs.Edges.{Direction, vertical, horizontal, tapAt, firstRow, firstColumn, Edge, edgeTap, filterEdge}
-use Rattle.frame.specs.EdgeCode.{tapFrom, edgeFrom}
-use Rattle.frame.proofs.Steps.{steps-ext}
+use Rattle.planes.specs.Steps.{steps}
+use Rattle.planes.specs.Planes.{Planes, Grid, side, stride, plane, StridesHold, PlanesHold}
+use Rattle.planes.specs.Edges.{Direction, vertical, horizontal, tapAt, firstRow, firstColumn, Edge, edgeTap, filterEdge}
+use Rattle.edges.specs.EdgeFrom.{tapFrom, edgeFrom}
+use Rattle.planes.proofs.Steps.{steps-ext}
 use Rattle.kernels.proofs.LentWindows.{segment-at, windowed-lent}
-use Rattle.frame.proofs.Fits.{Fits, Tap, edge-tap, square-within}
+use Rattle.planes.proofs.Fits.{Fits, Tap, edge-tap, square-within}
 
 -- the index of tap 0 of position 0
 unfoldable pub edgeBase : Grid → (r c : ℕ) → Edge → ℕ

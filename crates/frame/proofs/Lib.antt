@@ -1,41 +1,14 @@
--- The laws of the definitions of this crate.
-pub mod Facts
-pub mod Steps
-pub mod Fits
-pub mod Local
-pub mod Alike
-pub mod ReadFirst
-pub mod Parts
-pub mod Final
+-- The step of a macroblock.
 pub mod Bases
-pub mod RowsFirst
-pub mod Commute
--- Demand 3.
-pub mod CallFacts
-pub mod CallRuns
-pub mod Demand3
-pub mod RowsLaws
-pub mod SentRows
-pub mod CallsShown
--- What the proofs of the code share.
-pub mod Tables
-pub mod TapNumbers
-pub mod TapPositions
-pub mod TapsFirst
-pub mod RowStores
-pub mod ArrayRows
-pub mod RunTurns
-pub mod RowRuns
-pub mod VerticalRows
+pub mod EdgesWithin
 pub mod PlaneSteps
 pub mod Squares
-pub mod EntryLaws
-pub mod Plans
+-- The passes over byte lists.
+pub mod Soundness
 pub mod Passes
--- The entries over lent lists of records, which are walked.
+-- The passes over lent lists of records, which are walked.
 pub mod RecordLaws
-pub mod RecordBytes
 pub mod RecordPasses
-pub mod Again
-pub mod Enter26
+pub mod SliceLending
+pub mod WalkEntry
 pub mod RecordWalk

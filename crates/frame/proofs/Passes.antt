@@ -1,4 +1,4 @@
--- Laws of the passes: a turn of their loop, what their planner's answer comes to, and what its range asks. Assumes nothing.
+-- Laws of the passes: a turn of their loop, what their judge's answer comes to, and what its range asks. Assumes nothing.
 use mathlib.Core.Path.{_≡_, refl, _∙_}
 use mathlib.Core.Bool.{Bool, true, false, not, _||_, _&&_}
 use mathlib.Core.List.{List}
@@ -11,21 +11,23 @@ use lib.ListN.{length}
 use borrow.Author.Tests.{eqb-true, not-false}
 use Rattle.levels.specs.Encodings.{badMode, badReference, badInterMode}
 use Rattle.levels.specs.declared.config.FrameFilterConfig.{FrameFilterConfig}
-use Rattle.frame.specs.Steps.{steps}
-use Rattle.frame.specs.Planes.{Planes, Grid, macroblocks}
-use Rattle.frame.specs.Macroblock.{Plan, filterMacroblock}
-use Rattle.frame.specs.Entries.{Entry, KeyLists, InterLists, KeyCarried, InterCarried, otherLength, keyOtherLength, interOtherLength, anyOf}
-use Rattle.frame.specs.Pass.{Pass, keyPass, interPass, Call, step, answer, planesAfter}
-use Rattle.frame.specs.Layout.{gridOf}
-use Rattle.frame.specs.Answers.{passOutcome}
-use Rattle.frame.specs.PassCalls.{keyCall, interCall}
-use Rattle.frame.specs.Step.{Sound, Range, KeyRange, InterRange}
-use Rattle.frame.specs.Planner.{otherThan, planOf}
-use Rattle.frame.specs.declared.layout.PlaneLayout.{PlaneLayout}
-use Rattle.frame.specs.declared.plan.PassPlan.{PassPlan}
-use Rattle.frame.proofs.Steps.{steps-last}
-use Rattle.frame.proofs.EntryLaws.{key-bad, inter-bad}
-use Rattle.frame.proofs.Plans.{neither, Sized, Meets, sound, plan-meets}
+use Rattle.planes.specs.Steps.{steps}
+use Rattle.planes.specs.Planes.{Planes, Grid, macroblocks}
+use Rattle.planes.specs.Macroblock.{Plan, filterMacroblock}
+use Rattle.calls.specs.Entries.{Entry, KeyLists, InterLists, KeyCarried, InterCarried, lengthIsNot, keyLengthsWrong, interLengthsWrong, anyOf}
+use Rattle.calls.specs.Pass.{Pass, keyPass, interPass, Call, step}
+use Rattle.planes.specs.Layout.{gridOf}
+use Rattle.calls.specs.Answers.{Passed}
+use Rattle.calls.specs.PassCalls.{keyCall, interCall}
+use Rattle.frame.specs.Private.Ranges.{Sound, Range, KeyRange, InterRange}
+use Rattle.judge.specs.Batches.{lengthsWrong, batchOf}
+use Rattle.planes.specs.declared.layout.PlaneLayout.{PlaneLayout}
+use Rattle.judge.specs.declared.batch.Batch.{Batch}
+use Rattle.planes.proofs.Steps.{steps-last}
+use Rattle.calls.proofs.EntryLaws.{key-bad, inter-bad}
+use Rattle.planes.proofs.GridLaws.{neither}
+use Rattle.judge.proofs.Judgement.{Sized, Meets, batch-meets}
+use Rattle.frame.proofs.Soundness.{sound}
 
 -- ---- a turn of the loop
 
@@ -84,52 +86,52 @@ five-lengths n a b c d e = by (eqb a n) refl
     by false q = rw q (or-true (not (eqb b a && eqb c a && eqb d a && eqb e a)))
 
 key-lengths : (l : KeyLists) (n : ℕ) (alike : Bool) → alike ≡ (eqb (length (l .segments)) (length (l .modes)) && eqb (length (l .flags)) (length (l .modes)))
-    → otherThan alike (length (l .modes)) n ≡ keyOtherLength l n
-unfolding otherThan keyOtherLength otherLength
+    → lengthsWrong alike (length (l .modes)) n ≡ keyLengthsWrong l n
+unfolding lengthsWrong keyLengthsWrong lengthIsNot
 key-lengths l n alike e = rw e (three-lengths n (length (l .modes)) (length (l .segments)) (length (l .flags)))
 
 inter-lengths : (l : InterLists) (n : ℕ) (alike : Bool)
     → alike
     ≡ (eqb (length (l .segments)) (length (l .modes)) && eqb (length (l .flags)) (length (l .modes))
     && eqb (length (l .references)) (length (l .modes)) && eqb (length (l .interModes)) (length (l .modes)))
-    → otherThan alike (length (l .modes)) n ≡ interOtherLength l n
-unfolding otherThan interOtherLength otherLength
+    → lengthsWrong alike (length (l .modes)) n ≡ interLengthsWrong l n
+unfolding lengthsWrong interLengthsWrong lengthIsNot
 inter-lengths l n alike e =
     rw e (five-lengths n (length (l .modes)) (length (l .segments)) (length (l .flags)) (length (l .references)) (length (l .interModes)))
 
--- ---- what the planner's answer comes to
+-- ---- what the judge's answer comes to
 
-planned : (W : Pass) (a : Call W) (o b : Bool) (r : PassPlan) → o ≡ W .otherLength (a .carried) (macroblocks (a .grid)) → b ≡ W .badEntry (a .carried)
-    → r ≡ planOf (record {
+planned : (W : Pass) (a : Call W) (o b : Bool) (r : Batch) → o ≡ W .wrongLength (a .carried) (macroblocks (a .grid)) → b ≡ W .badEntry (a .carried)
+    → r ≡ batchOf (record {
       grid = a .grid;
       yLength = length (a .lent .y);
       uLength = length (a .lent .u);
       vLength = length (a .lent .v);
-      otherLength = o;
+      wrongLength = o;
       badEntry = b;
       start = a .start;
       allowance = a .allowance;
     })
     → Meets W a r
-planned W a o b r e f q = plan-meets W a r (q ∙ rw (e, f))
+planned W a o b r e f q = batch-meets W a r (q ∙ rw (e, f))
 
-module _ (layout : PlaneLayout) (p : Planes) (config : FrameFilterConfig) (start allowance : ℕ) (r : PassPlan) where
+module _ (layout : PlaneLayout) (p : Planes) (config : FrameFilterConfig) (start allowance : ℕ) (r : Batch) where
   pub key-meets : (l : KeyLists) (alike bad : Bool)
       → alike ≡ (eqb (length (l .segments)) (length (l .modes)) && eqb (length (l .flags)) (length (l .modes)))
       → bad ≡ anyOf (ltb 4) (l .modes)
-      → r ≡ planOf (record {
+      → r ≡ batchOf (record {
         grid = gridOf layout;
         yLength = length (p .y);
         uLength = length (p .u);
         vLength = length (p .v);
-        otherLength = otherThan alike (length (l .modes)) (macroblocks (gridOf layout));
+        wrongLength = lengthsWrong alike (length (l .modes)) (macroblocks (gridOf layout));
         badEntry = bad;
         start = start;
         allowance = allowance;
       })
       → Meets keyPass (keyCall p layout l config start allowance) r
   key-meets l alike bad e f q =
-      planned keyPass (keyCall p layout l config start allowance) (otherThan alike (length (l .modes)) (macroblocks (gridOf layout))) bad r
+      planned keyPass (keyCall p layout l config start allowance) (lengthsWrong alike (length (l .modes)) (macroblocks (gridOf layout))) bad r
       (key-lengths l (macroblocks (gridOf layout)) alike e) (key-bad l bad f) q
 
   pub inter-meets : (l : InterLists) (alike bad : Bool)
@@ -137,30 +139,30 @@ module _ (layout : PlaneLayout) (p : Planes) (config : FrameFilterConfig) (start
       ≡ (eqb (length (l .segments)) (length (l .modes)) && eqb (length (l .flags)) (length (l .modes))
       && eqb (length (l .references)) (length (l .modes)) && eqb (length (l .interModes)) (length (l .modes)))
       → bad ≡ (anyOf badMode (l .modes) || anyOf badReference (l .references) || anyOf badInterMode (l .interModes))
-      → r ≡ planOf (record {
+      → r ≡ batchOf (record {
         grid = gridOf layout;
         yLength = length (p .y);
         uLength = length (p .u);
         vLength = length (p .v);
-        otherLength = otherThan alike (length (l .modes)) (macroblocks (gridOf layout));
+        wrongLength = lengthsWrong alike (length (l .modes)) (macroblocks (gridOf layout));
         badEntry = bad;
         start = start;
         allowance = allowance;
       })
       → Meets interPass (interCall p layout l config start allowance) r
   inter-meets l alike bad e f q =
-      planned interPass (interCall p layout l config start allowance) (otherThan alike (length (l .modes)) (macroblocks (gridOf layout))) bad r
+      planned interPass (interCall p layout l config start allowance) (lengthsWrong alike (length (l .modes)) (macroblocks (gridOf layout))) bad r
       (inter-lengths l (macroblocks (gridOf layout)) alike e) (inter-bad l bad f) q
 
--- the planner's answer, once its steps are done
-pub ends : {W : Pass} {a : Call W} {r : PassPlan} → Meets W a r → (p : Planes)
+-- the judge's answer, once its steps are done
+pub ends : {W : Pass} {a : Call W} {r : Batch} → Meets W a r → (p : Planes)
     → p ≡ steps (step W (a .grid) (a .settings) (W .entry (a .carried))) (r .from) (r .to - r .from) (a .lent)
-    → (passOutcome (r .answer) ≡ answer W a) × (p ≡ planesAfter W a)
-ends m p e = (m .answers, e ∙ m .leaves)
+    → Passed W a (r .answer) p
+ends m p e = record { answered = m .answers; filtered = e ∙ m .leaves }
 
 -- ---- what its range asks
 
-range-of : (W : Pass) (layout : PlaneLayout) (config : FrameFilterConfig) (carried : W .Carried) (p : Planes) (start allowance : ℕ) (r : PassPlan)
+range-of : (W : Pass) (layout : PlaneLayout) (config : FrameFilterConfig) (carried : W .Carried) (p : Planes) (start allowance : ℕ) (r : Batch)
     → Meets W (record { grid = gridOf layout; settings = config; carried = carried; lent = p; start = start; allowance = allowance }) r
     → Range layout p (r .from) (r .to)
 range-of W layout config carried p start allowance r m = record {
@@ -174,44 +176,44 @@ range-of W layout config carried p start allowance r m = record {
     sized-sound s = sound layout (p .y) (p .u) (p .v) (s .large) (s .strides) (s .short)
 
 -- a list has an entry for each, unless there are none
-listed : (n to : ℕ) (l : List ℕ) → to ≤ n → (0 < to → otherLength n l ≡ false) → to ≤ length l
-unfolding otherLength
+listed : (n to : ℕ) (l : List ℕ) → to ≤ n → (0 < to → lengthIsNot n l ≡ false) → to ≤ length l
+unfolding lengthIsNot
 listed n to l h f =
     ⊎-elim (λ z. omega (arith, z)) (λ k. omega (arith, h, eqb-true (length l) n (not-false (eqb (length l) n) (f k)))) (eq-zero-or-pos to)
 
 record KeyListed (n : ℕ) (l : KeyLists) : Type 0 where
-  modes : otherLength n (l .modes) ≡ false
-  segments : otherLength n (l .segments) ≡ false
-  flags : otherLength n (l .flags) ≡ false
+  modes : lengthIsNot n (l .modes) ≡ false
+  segments : lengthIsNot n (l .segments) ≡ false
+  flags : lengthIsNot n (l .flags) ≡ false
 
-key-listed : (n : ℕ) (l : KeyLists) → keyOtherLength l n ≡ false → KeyListed n l
-unfolding keyOtherLength
+key-listed : (n : ℕ) (l : KeyLists) → keyLengthsWrong l n ≡ false → KeyListed n l
+unfolding keyLengthsWrong
 key-listed n l e =
-    let two = neither (otherLength n (l .modes) || otherLength n (l .segments)) (otherLength n (l .flags)) e in
-    let one = neither (otherLength n (l .modes)) (otherLength n (l .segments)) (two .0) in
+    let two = neither (lengthIsNot n (l .modes) || lengthIsNot n (l .segments)) (lengthIsNot n (l .flags)) e in
+    let one = neither (lengthIsNot n (l .modes)) (lengthIsNot n (l .segments)) (two .0) in
     record { modes = one .0; segments = one .1; flags = two .1 }
 
 record InterListed (n : ℕ) (l : InterLists) : Type 0 where
-  modes : otherLength n (l .modes) ≡ false
-  segments : otherLength n (l .segments) ≡ false
-  flags : otherLength n (l .flags) ≡ false
-  references : otherLength n (l .references) ≡ false
-  interModes : otherLength n (l .interModes) ≡ false
+  modes : lengthIsNot n (l .modes) ≡ false
+  segments : lengthIsNot n (l .segments) ≡ false
+  flags : lengthIsNot n (l .flags) ≡ false
+  references : lengthIsNot n (l .references) ≡ false
+  interModes : lengthIsNot n (l .interModes) ≡ false
 
-inter-listed : (n : ℕ) (l : InterLists) → interOtherLength l n ≡ false → InterListed n l
-unfolding interOtherLength
+inter-listed : (n : ℕ) (l : InterLists) → interLengthsWrong l n ≡ false → InterListed n l
+unfolding interLengthsWrong
 inter-listed n l e =
-    let o1 = otherLength n (l .modes) in
-    let o2 = otherLength n (l .segments) in
-    let o3 = otherLength n (l .flags) in
-    let o4 = otherLength n (l .references) in
-    let four = neither (o1 || o2 || o3 || o4) (otherLength n (l .interModes)) e in
+    let o1 = lengthIsNot n (l .modes) in
+    let o2 = lengthIsNot n (l .segments) in
+    let o3 = lengthIsNot n (l .flags) in
+    let o4 = lengthIsNot n (l .references) in
+    let four = neither (o1 || o2 || o3 || o4) (lengthIsNot n (l .interModes)) e in
     let three = neither (o1 || o2 || o3) o4 (four .0) in
     let two = neither (o1 || o2) o3 (three .0) in
     let one = neither o1 o2 (two .0) in
     record { modes = one .0; segments = one .1; flags = two .1; references = three .1; interModes = four .1 }
 
-module _ (layout : PlaneLayout) (p : Planes) (config : FrameFilterConfig) (start allowance : ℕ) (r : PassPlan) where
+module _ (layout : PlaneLayout) (p : Planes) (config : FrameFilterConfig) (start allowance : ℕ) (r : Batch) where
   pub key-range : (l : KeyLists) → Meets keyPass (keyCall p layout l config start allowance) r → KeyRange layout p l (r .from) (r .to)
   key-range l m =
       let n = macroblocks (gridOf layout) in

@@ -10,13 +10,13 @@ use lib.Dec.{ltb}
 use borrow.Author.Tests.{ltb-true, le-ltb, lt-ltb}
 use Rattle.kernels.specs.Segment.{Kernel, half}
 use Rattle.kernels.proofs.KernelLaws.{half-most}
-use Rattle.frame.specs.Planes.{Plane, luma, chromaU, chromaV, Planes, Grid, side, stride, gridRow, gridColumn}
-use Rattle.frame.specs.Edges.{Direction, vertical, horizontal, Edge, firstRow, firstColumn, filterEdge, borders, insides}
-use Rattle.frame.specs.EdgeCode.{edgeFrom}
-use Rattle.frame.specs.PlaneCode.{leftFrom, topFrom, threeVertical, threeHorizontal, lumaFrom, chromaFrom}
-use Rattle.frame.specs.Macroblock.{Plan, filter, lead, filterMacroblock}
+use Rattle.planes.specs.Planes.{Plane, luma, chromaU, chromaV, Planes, Grid, side, stride, gridRow, gridColumn}
+use Rattle.planes.specs.Edges.{Direction, vertical, horizontal, Edge, firstRow, firstColumn, filterEdge, borders, insides}
+use Rattle.edges.specs.EdgeFrom.{edgeFrom}
+use Rattle.frame.specs.Private.PlaneEdges.{leftFrom, topFrom, threeVertical, threeHorizontal, lumaFrom, chromaFrom}
+use Rattle.planes.specs.Macroblock.{Plan, filter, lead, filterMacroblock}
 use Rattle.frame.proofs.Bases.{edgeBase, edge-from}
-use Rattle.frame.proofs.Parts.{filterAt, four-parts, macroblock-parts, edgeOf, borders-none, borders-at, insides-none, insides-at}
+use Rattle.planes.proofs.StepParts.{filterAt, four-parts, macroblock-parts, edgeOf, borders-none, borders-at, insides-none, insides-at}
 
 -- (a - h) rows above, counted in samples
 rows-up : (a h s b : ℕ) → h ≤ a → (a - h) * s + b ≡ a * s + b - h * s

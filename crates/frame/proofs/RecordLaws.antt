@@ -7,12 +7,12 @@ use Rattle.levels.specs.Encodings.{modeByte, referenceByte, interModeByte, mode
 use Rattle.levels.specs.Levels.{keyLevel, interLevel, levelOf, keyLevelOf}
 use Rattle.levels.specs.declared.config.FrameFilterConfig.{FrameFilterConfig}
 use Rattle.levels.proofs.Encodings.{mode-byte, reference-byte, inter-mode-byte}
-use Rattle.frame.specs.Planes.{Planes, Grid}
-use Rattle.frame.specs.Macroblock.{filterMacroblock}
-use Rattle.frame.specs.Entries.{segmentByte, keyRecord, interRecord}
-use Rattle.frame.specs.Pass.{isB, insideOf, planAt, keyPlan, interPlan}
-use Rattle.frame.specs.declared.records.MacroblockModes.{MacroblockModes}
-use Rattle.frame.proofs.EntryLaws.{above-tm, key-level-min, inter-level-min}
+use Rattle.planes.specs.Planes.{Planes, Grid}
+use Rattle.planes.specs.Macroblock.{filterMacroblock}
+use Rattle.calls.specs.Entries.{segmentByte, keyRecord, interRecord}
+use Rattle.calls.specs.Pass.{isB, insideOf, planAt, keyPlan, interPlan}
+use Rattle.calls.specs.declared.records.MacroblockModes.{MacroblockModes}
+use Rattle.calls.proofs.EntryLaws.{above-tm, key-level-min, inter-level-min}
 
 module _ (config : FrameFilterConfig) (mb : MacroblockModes) (level mode segment : ℕ) (m : mode ≡ modeByte (mb .«y_mode»)) (s : segment ≡ segmentByte (mb .«segment_id»)) where
   pub key-record-level : level ≡ keyLevelOf config segment mode → level ≡ keyLevel config (keyRecord mb .segment) (keyRecord mb .mode)

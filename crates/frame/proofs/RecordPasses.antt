@@ -8,21 +8,22 @@ use lib.Dec.{eqb}
 use lib.ListN.{length, getD}
 use borrow.Author.Tests.{eqb-true, not-false}
 use Rattle.levels.specs.declared.config.FrameFilterConfig.{FrameFilterConfig}
-use Rattle.frame.specs.Steps.{steps}
-use Rattle.frame.specs.Planes.{luma, chromaU, chromaV, Planes, macroblocks}
-use Rattle.frame.specs.Macroblock.{filterMacroblock}
-use Rattle.frame.specs.Entries.{Entry, KeyCarried, InterCarried, keyRecord, interRecord, noRecord, otherLength}
-use Rattle.frame.specs.Pass.{Pass, keyPass, interPass, Call, step}
-use Rattle.frame.specs.Layout.{gridOf}
-use Rattle.frame.specs.Answers.{Passed}
-use Rattle.frame.specs.Step.{Sound}
-use Rattle.frame.specs.Planner.{otherThan, planOf}
-use Rattle.frame.specs.declared.layout.PlaneLayout.{PlaneLayout}
-use Rattle.frame.specs.declared.plan.PassPlan.{PassPlan}
-use Rattle.frame.specs.declared.records.MacroblockModes.{MacroblockModes}
-use Rattle.frame.proofs.Alike.{length-steps}
-use Rattle.frame.proofs.Plans.{Sized, Meets, sound, sound-kept, plan-meets}
-use Rattle.frame.proofs.Steps.{steps-last}
+use Rattle.planes.specs.Steps.{steps}
+use Rattle.planes.specs.Planes.{luma, chromaU, chromaV, Planes, macroblocks}
+use Rattle.planes.specs.Macroblock.{filterMacroblock}
+use Rattle.calls.specs.Entries.{Entry, KeyCarried, InterCarried, keyRecord, interRecord, noRecord, lengthIsNot}
+use Rattle.calls.specs.Pass.{Pass, keyPass, interPass, Call, step}
+use Rattle.planes.specs.Layout.{gridOf}
+use Rattle.calls.specs.Answers.{Passed}
+use Rattle.frame.specs.Private.Ranges.{Sound}
+use Rattle.judge.specs.Batches.{lengthsWrong, batchOf}
+use Rattle.planes.specs.declared.layout.PlaneLayout.{PlaneLayout}
+use Rattle.judge.specs.declared.batch.Batch.{Batch}
+use Rattle.calls.specs.declared.records.MacroblockModes.{MacroblockModes}
+use Rattle.planes.proofs.Alike.{length-steps}
+use Rattle.judge.proofs.Judgement.{Sized, Meets, batch-meets}
+use Rattle.frame.proofs.Soundness.{sound, sound-kept}
+use Rattle.planes.proofs.Steps.{steps-last}
 
 -- a pass, and what it makes of a list of records
 pub record OfRecords : Type 1 where
@@ -30,7 +31,7 @@ pub record OfRecords : Type 1 where
   pub carry : List MacroblockModes → pass .Carried
   pub says : MacroblockModes → Entry
   pub entries : (rs : List MacroblockModes) (m : ℕ) → says (getD rs m noRecord) ≡ pass .entry (carry rs) m
-  pub lengths : (rs : List MacroblockModes) (n : ℕ) → otherLength n rs ≡ pass .otherLength (carry rs) n
+  pub lengths : (rs : List MacroblockModes) (n : ℕ) → lengthIsNot n rs ≡ pass .wrongLength (carry rs) n
   pub no-bad : (rs : List MacroblockModes) → false ≡ pass .badEntry (carry rs)
 
 abbrev pub keyKind : OfRecords
@@ -45,21 +46,21 @@ pub record Long (p p′ : Planes) : Type 0 where
   pub u : length (p .u) ≡ length (p′ .u)
   pub v : length (p .v) ≡ length (p′ .v)
 
--- what the planner plans for so many records
-abbrev pub planned : (y u v : ℕ) → PlaneLayout → (entries start allowance : ℕ) → PassPlan
-planned y u v layout entries start allowance = planOf (record {
+-- what the judge decides of so many records
+abbrev pub planned : (y u v : ℕ) → PlaneLayout → (entries start allowance : ℕ) → Batch
+planned y u v layout entries start allowance = batchOf (record {
   grid = gridOf layout;
   yLength = y;
   uLength = u;
   vLength = v;
-  otherLength = otherThan true entries (macroblocks (gridOf layout));
+  wrongLength = lengthsWrong true entries (macroblocks (gridOf layout));
   badEntry = false;
   start = start;
   allowance = allowance;
 })
 
-same-test : (n : ℕ) (rs : List MacroblockModes) → otherThan true (length rs) n ≡ otherLength n rs
-unfolding otherThan otherLength
+same-test : (n : ℕ) (rs : List MacroblockModes) → lengthsWrong true (length rs) n ≡ lengthIsNot n rs
+unfolding lengthsWrong lengthIsNot
 same-test n rs = refl
 
 module _ (K : OfRecords) (layout : PlaneLayout) (config : FrameFilterConfig) (rs : List MacroblockModes) (start allowance : ℕ) (p₀ : Planes) where
@@ -87,9 +88,9 @@ module _ (K : OfRecords) (layout : PlaneLayout) (config : FrameFilterConfig) (rs
       let h = length-steps (gridOf layout) (λ m. K .pass .plan config (K .pass .entry (K .carry rs) m)) from n p₀ in
       record { y = h luma; u = h chromaU; v = h chromaV }
 
-  module _ (r : PassPlan) (e : r ≡ planned (length (p₀ .y)) (length (p₀ .u)) (length (p₀ .v)) layout (length rs) start allowance) where
+  module _ (r : Batch) (e : r ≡ planned (length (p₀ .y)) (length (p₀ .u)) (length (p₀ .v)) layout (length rs) start allowance) where
     met : Meets (K .pass) callOf r
-    met = plan-meets (K .pass) callOf r (e ∙ rw (same-test (macroblocks (gridOf layout)) rs ∙ K .lengths rs (macroblocks (gridOf layout)), K .no-bad rs))
+    met = batch-meets (K .pass) callOf r (e ∙ rw (same-test (macroblocks (gridOf layout)) rs ∙ K .lengths rs (macroblocks (gridOf layout)), K .no-bad rs))
 
     pub ordered : r .from ≤ r .to
     ordered = met .ordered
@@ -99,7 +100,7 @@ module _ (K : OfRecords) (layout : PlaneLayout) (config : FrameFilterConfig) (rs
 
     -- macroblock m has its record
     pub in-list : (m : ℕ) → m < r .to → m < length rs
-    unfolding otherLength
+    unfolding lengthIsNot
     in-list m h =
         omega (arith, h, met .within, eqb-true (length rs) (macroblocks (gridOf layout)) (not-false (eqb (length rs) (macroblocks (gridOf layout))) (K .lengths rs (macroblocks (gridOf layout)) ∙ sized m h .lengths)))
 

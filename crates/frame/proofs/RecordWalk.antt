@@ -1,5 +1,5 @@
--- The walk of a pass over a lent list of records: both functions of src/record_pass.rt have this MIR, but for the step that a turn calls, and no plan of the borrow checker.
--- `plan_records` says what is to be done. A loop copies each record out of the lent list and hands it to the step, with the three planes lent again for each call.
+-- The walk of a pass over a lent list of records: both functions of src/record_pass.rt have this MIR, but for the step that a turn calls, and no batch of the borrow checker.
+-- `judge_records` says what is to be done. A loop copies each record out of the lent list and hands it to the step, with the three planes lent again for each call.
 -- All that the walk knows of the two callees is that they meet their contracts. The text below `stayed` was written by a program that counts the positions of what is held.
 -- Assumes `Given`.
 use mathlib.Core.Path.{_≡_, refl, sym, ap, subst, _∙_}
@@ -52,35 +52,35 @@ use denote.Exit.{yes}
 use Rattle.levels.specs.declared.config.FrameFilterConfig.{FrameFilterConfig}
 use Rattle.levels.proofs.config.FrameFilterConfig as F
 use Rattle.levels.proofs.config.FrameFilterConfig.Laws as F′
-use Rattle.frame.specs.Planes.{Planes, macroblocks}
-use Rattle.frame.specs.Macroblock.{filterMacroblock}
-use Rattle.frame.specs.Entries.{noRecord}
-use Rattle.frame.specs.Layout.{gridOf, planesOf}
-use Rattle.frame.specs.Answers.{Passed}
-use Rattle.frame.specs.Step.{Sound}
-use Rattle.frame.specs.declared.layout.PlaneLayout.{PlaneLayout}
-use Rattle.frame.specs.declared.plan.PassPlan.{PassPlan}
-use Rattle.frame.specs.declared.records.MacroblockModes.{MacroblockModes}
+use Rattle.planes.specs.Planes.{Planes, macroblocks}
+use Rattle.planes.specs.Macroblock.{filterMacroblock}
+use Rattle.calls.specs.Entries.{noRecord}
+use Rattle.planes.specs.Layout.{gridOf, planesOf}
+use Rattle.calls.specs.Answers.{Passed}
+use Rattle.frame.specs.Private.Ranges.{Sound}
+use Rattle.planes.specs.declared.layout.PlaneLayout.{PlaneLayout}
+use Rattle.judge.specs.declared.batch.Batch.{Batch}
+use Rattle.calls.specs.declared.records.MacroblockModes.{MacroblockModes}
 use Rattle.frame.proofs.RecordPasses.{OfRecords, callOf, planned, planesAt, Long, long, no-step, one-step, ordered, in-list, ready, passed}
-use Rattle.frame.proofs.Enter26.{enters, locals}
-use Rattle.frame.proofs.Again.{LentAgain, lends-at, comes-at}
-use Rattle.frame.proofs.records.MacroblockModes as T
-use Rattle.frame.proofs.records.MacroblockModes.Laws as T′
-use Rattle.frame.proofs.layout.PlaneLayout as G
-use Rattle.frame.proofs.layout.PlaneLayout.Laws as G′
-use Rattle.frame.proofs.plan.PassPlan as P
-use Rattle.frame.proofs.plan.PassPlan.Laws as P′
-use Rattle.frame.proofs.answers.PassAnswer as N
-use Rattle.frame.proofs.answers.PassAnswer.Laws as N′
-use Rattle.frame.proofs.record_step.plan_records as planner
-use Rattle.frame.proofs.record_step.plan_records.Symbol.{name as #planner}
+use Rattle.frame.proofs.WalkEntry.{enters, locals}
+use Rattle.frame.proofs.SliceLending.{LentAgain, lends-at, comes-at}
+use Rattle.calls.proofs.records.MacroblockModes as T
+use Rattle.calls.proofs.records.MacroblockModes.Laws as T′
+use Rattle.planes.proofs.layout.PlaneLayout as G
+use Rattle.planes.proofs.layout.PlaneLayout.Laws as G′
+use Rattle.judge.proofs.batch.Batch as P
+use Rattle.judge.proofs.batch.Batch.Laws as P′
+use Rattle.calls.proofs.answers.PassAnswer as N
+use Rattle.calls.proofs.answers.PassAnswer.Laws as N′
+use Rattle.frame.proofs.record_step.judge_records as judge
+use Rattle.frame.proofs.record_step.judge_records.Symbol.{name as #judge}
 use Rattle.frame.proofs.record_step.key_step as step
 use Rattle.frame.proofs.record_pass.filter_frame_records as filter
 
 abbrev R : RattleType
 R = T.the-row
 
--- the machine values of a record, of layout and settings, and of a plan
+-- the machine values of a record, of layout and settings, and of a batch
 abbrev mach : MacroblockModes → Val
 mach h = LL.tuple-val T.the-type T′.the-laws (T.the-type .to h)
 
@@ -90,7 +90,7 @@ machG h = LL.tuple-val G.the-type G′.the-laws (G.the-type .to h)
 abbrev machF : FrameFilterConfig → Val
 machF h = LL.tuple-val F.the-type F′.the-laws (F.the-type .to h)
 
-abbrev machP : PassPlan → Val
+abbrev machP : Batch → Val
 machP h = LL.tuple-val P.the-type P′.the-laws (P.the-type .to h)
 
 -- ---- the MIR
@@ -126,7 +126,7 @@ set i v b = seq (assign (place i []) v) b
 abbrev lent : ℕ → ℕ → Body → Body
 lent i k b = set k (addrOf (place i (field 0 ∷ deref (tyInt w8) ∷ []))) (seq (assign (place (k + 1) []) (aggregate (var k ∷ part i 1 ∷ []))) b)
 
--- parameters 1 to 8; 9 the plan, 10 the macroblock, 11 to 14 the lengths
+-- parameters 1 to 8; 9 the batch, 10 the macroblock, 11 to 14 the lengths
 abbrev t-8 : Body
 t-8 = set 0 (rvOpd (part 9 0)) return
 
@@ -150,7 +150,7 @@ module _ (called : Name) where
   abbrev t-1 : Body
   t-1 =
       set 11 (rvOpd (part 1 1)) (set 12 (rvOpd (part 2 1)) (set 13 (rvOpd (part 3 1)) (set 14 (rvOpd (part 5 1))
-      (seq (call #planner (var 11 ∷ var 12 ∷ var 13 ∷ var 4 ∷ var 14 ∷ var 7 ∷ var 8 ∷ []) (place 9 [])) t-6))))
+      (seq (call #judge (var 11 ∷ var 12 ∷ var 13 ∷ var 4 ∷ var 14 ∷ var 7 ∷ var 8 ∷ []) (place 9 [])) t-6))))
 
   abbrev pub function : Fn
   function = record {
@@ -186,8 +186,8 @@ module _ (K : OfRecords) {M : Type 1} (𝓤 : URA M) where
   abbrev pub Stepped : (H : Heap 𝓤) → Atoms 𝓤 → Contract 𝓤
   Stepped H A = tripleOf 𝓤 H A step.signature (closing 𝓤 H A step.ended stepClauses)
 
-abbrev pub Planned : {M : Type 1} (𝓤 : URA M) (H : Heap 𝓤) (A : Atoms 𝓤) → (Memory → SProp 𝓤) → (Routine → Fun 𝓤) → Contract 𝓤
-Planned 𝓤 H A mem run = tripleOf 𝓤 H A planner.signature (planner.spec 𝓤 H A mem run)
+abbrev pub Judged : {M : Type 1} (𝓤 : URA M) (H : Heap 𝓤) (A : Atoms 𝓤) → (Memory → SProp 𝓤) → (Routine → Fun 𝓤) → Contract 𝓤
+Judged 𝓤 H A mem run = tripleOf 𝓤 H A judge.signature (judge.spec 𝓤 H A mem run)
 
 abbrev stayed : Stays (filter.ended .signature .params) (filter.ended .kept)
 stayed = (stay-slice (0 ∷ []) tt (plain (λ _. u8)), (stay-slice (1 ∷ []) tt (plain (λ _. u8)), (stay-slice (2 ∷ []) tt (plain (λ _. u8)), (stay-dropped _ yes, (stay-dropped _ yes, (stay-dropped _ yes, (stay-dropped _ yes, (stay-dropped _ yes, tt))))))))
@@ -239,17 +239,17 @@ module _ (K : OfRecords) (called : Name) {M : Type 1} (𝓤 : URA M) (H : Heap �
   abbrev Post : Val → SProp 𝓤
   Post = walkOf 𝓤 H A filter.ended stayed (clauses K 𝓤) .post bound
 
-  abbrev plan : PassPlan
-  plan = planned (length y₀) (length y₁) (length y₂) lay (length ms) st al
+  abbrev batch : Batch
+  batch = planned (length y₀) (length y₁) (length y₂) lay (length ms) st al
 
-  -- ---- the call of the planner
-  abbrev asked : Args planner.signature tt
+  -- ---- the call of the judge
+  abbrev asked : Args judge.signature tt
   asked = (length y₀, (length y₁, (length y₂, (lay, (length ms, (st, (al, tt)))))))
 
-  abbrev to-plan : Planned 𝓤 H A mem run .Ghost
+  abbrev to-plan : Judged 𝓤 H A mem run .Ghost
   to-plan = ((tt, tt, tt, asked, (vint w64 (length y₀) ∷ [], (vint w64 (length y₁) ∷ [], (vint w64 (length y₂) ∷ [], (machG lay ∷ [], (vint w64 (length ms) ∷ [], (vint w64 st ∷ [], (vint w64 al ∷ [], tt)))))))), tt)
 
-  goes-plan : ent 𝓤 (emp 𝓤) (Planned 𝓤 H A mem run .pre to-plan)
+  goes-plan : ent 𝓤 (emp 𝓤) (Judged 𝓤 H A mem run .pre to-plan)
   goes-plan =
       qed W [] ∵ nothing ! $ owned ! usize (Is usize) (uint-makes 𝓤 H A W w64) al _ (refl, al-fits) $ fjoin ! $
       owned ! usize (Is usize) (uint-makes 𝓤 H A W w64) st _ (refl, st-fits) $ fjoin ! $
@@ -260,8 +260,8 @@ module _ (K : OfRecords) (called : Name) {M : Type 1} (𝓤 : URA M) (H : Heap �
       owned ! usize (Is usize) (uint-makes 𝓤 H A W w64) (length y₀) _ (refl, room₀ .0) $ fjoin ! $
       nothing ! $ join ! $ frame ! $ done !
 
-  said : (r : PassPlan) → ent 𝓤 (ensured 𝓤 H A planner.ended (planner.clauses 𝓤 H A mem run) tt asked tt r) (fact 𝓤 (r ≡ plan))
-  said r = exE 𝓤 _ (λ ws. snd∗ 𝓤 (sem 𝓤 H A (lasts planner.ended tt asked ws)) (fact 𝓤 (r ≡ plan)))
+  said : (r : Batch) → ent 𝓤 (ensured 𝓤 H A judge.ended (judge.clauses 𝓤 H A mem run) tt asked tt r) (fact 𝓤 (r ≡ batch))
+  said r = exE 𝓤 _ (λ ws. snd∗ 𝓤 (sem 𝓤 H A (lasts judge.ended tt asked ws)) (fact 𝓤 (r ≡ batch)))
 
   -- ---- what is had on entry, and what no turn touches of the list
   abbrev Entered : List (Item 𝓤)
@@ -270,7 +270,7 @@ module _ (K : OfRecords) (called : Name) {M : Type 1} (𝓤 : URA M) (H : Heap �
   abbrev Shr : Fml
   Shr = fshr-bor κ₃ (λ t. arr-parts (shares R) (length ms) .part t ms bl ol)
 
-  module _ (r : PassPlan) (e : r ≡ plan) (is : Is P.the-row r (machP r ∷ [])) where
+  module _ (r : Batch) (e : r ≡ batch) (is : Is P.the-row r (machP r ∷ [])) where
     abbrev machA : Val
     machA = EL.val N.the-type N′.the-laws (r .answer)
 
@@ -484,7 +484,7 @@ module _ (K : OfRecords) (called : Name) {M : Type 1} (𝓤 : URA M) (H : Heap �
       looped : Sq W (At (0, omega arith)) (runs C Λ En (t-7 called) (atRet En Post))
       looped = first ! $ blocks ! $ loops ! 𝓣 Nearer Nearer-wf At turns (0, omega arith)
 
-      -- what is had once the planner has returned
+      -- what is had once the judge has returned
       abbrev Got : List (Item 𝓤)
       Got = ‵ (froom T′.mir l₂₅ 0) ∷ ‵ (fdies T′.mir l₂₅) ∷ ‵ (froom tyPtr l₂₄ 0) ∷ ‵ (fdies tyPtr l₂₄) ∷ ‵ (froom word l₂₃ 0) ∷ ‵ (fdies word l₂₃) ∷ ‵ (froom (sliceTy ref9) l₂₂ 0) ∷ ‵ (fdies (sliceTy ref9) l₂₂)
           ∷ ‵ (froom ref9 l₂₁ 0) ∷ ‵ (fdies ref9 l₂₁) ∷ ‵ (froom (sliceTy ref9) l₂₀ 0) ∷ ‵ (fdies (sliceTy ref9) l₂₀) ∷ ‵ (froom ref9 l₁₉ 0) ∷ ‵ (fdies ref9 l₁₉) ∷ ‵ (froom (sliceTy ref9) l₁₈ 0) ∷ ‵ (fdies (sliceTy ref9) l₁₈)
@@ -495,8 +495,8 @@ module _ (K : OfRecords) (called : Name) {M : Type 1} (𝓤 : URA M) (H : Heap �
           ∷ ‵ (fat fullShare slice0 l₁ 0 s₀) ∷ ‵ (fdies slice0 l₁) ∷ ‵ (froom N′.mir l₀ 0) ∷ ‵ (fdies N′.mir l₀)
           ∷ Entered
 
-      after-plan : Sq W Got (runs C Λ En (t-6 called) (atRet En Post))
-      after-plan =
+      after-judge : Sq W Got (runs C Λ En (t-6 called) (atRet En Post))
+      after-judge =
           assigns ! (of-opd ! (load ! (from ! (fld ! refl (stop !))) (look-in ! 32 (sub ! 1 refl (whole !))))) (from ! (stop !)) (init ! 30 refl (tt, record { fits = from-fits })) $ move ! (53 ∷ []) $ fsplit ! $
           move ! (1 ∷ []) $ fsplit ! $ move ! (1 ∷ []) $ fsplit ! $ move ! (1 ∷ []) $ fsplit ! $ drop ! $ fsplit ! $ fsplit ! $ move ! (1 ∷ []) $ fsplit ! $ drop ! $ move ! (1 ∷ []) $ drop ! $ move ! (1 ∷ []) $
           drop ! $ move ! (56 ∷ []) $ split ! $ move ! (1 ∷ []) $ split ! $ move ! (1 ∷ []) $ split ! $ move ! (1 ∷ []) $ split ! $ move ! (1 ∷ []) $ drop ! $ move ! (7 ∷ 6 ∷ 5 ∷ 3 ∷ 2 ∷ 1 ∷ 0 ∷ 4 ∷ []) $
@@ -505,10 +505,10 @@ module _ (K : OfRecords) (called : Name) {M : Type 1} (𝓤 : URA M) (H : Heap �
           rewrite ! 2 (λ (l : List ℕ). ‵ (MutSlice (named 2) κ₂ u8 .own (x₂ γ₂ l) (s₂ ∷ []))) (ap (λ (p : Planes). p .v) (no-step K lay cfg ms st al p₀ (r .from))) refl $
           rewrite ! 38 (λ (j : ℕ). ‵ (fat fullShare word l₁₀ 0 (vint w64 j))) (sym (add-zero (r .from))) refl $ looped
 
-  spelled : (r : PassPlan) (w : Val) → Is P.the-row r (w ∷ []) → Is P.the-row r (machP r ∷ [])
+  spelled : (r : Batch) (w : Val) → Is P.the-row r (w ∷ []) → Is P.the-row r (machP r ∷ [])
   spelled r w is = subst (Is P.the-row r) (LL.tells P.the-type P′.the-laws r _ is) is
 
-  module _ (𝓣 : Tables 𝓤 H) (known-plan : Triple 𝓤 (𝓣 .C #planner) (Planned 𝓤 H A mem run)) (known-step : Triple 𝓤 (𝓣 .C called) (Stepped K 𝓤 H A)) where
+  module _ (𝓣 : Tables 𝓤 H) (known-judge : Triple 𝓤 (𝓣 .C #judge) (Judged 𝓤 H A mem run)) (known-step : Triple 𝓤 (𝓣 .C called) (Stepped K 𝓤 H A)) where
     walk : ent 𝓤 (onEntry 𝓤 H A filter.signature (κ₀, (κ₁, (κ₂, (κ₃, tt)))) (q₀, (q₁, (q₂, (q₃, tt)))) a at) (WpFn 𝓤 H (𝓣 .C) (𝓣 .Λ) (function called) (s₀ ∷ s₁ ∷ s₂ ∷ (machG lay) ∷ sl ∷ (machF cfg) ∷ (vint w64 st) ∷ (vint w64 al) ∷ []) Post)
     walk =
         enters N′.mir slice0 slice1 slice2 G′.mir sliceL F′.mir word word P′.mir word word word word word tyBool tyUnit ref9 (sliceTy ref9) ref9 (sliceTy ref9) ref9 (sliceTy ref9) word tyPtr T′.mir 𝓤 H A W (𝓣 .C) (𝓣 .Λ) 4 [] (t-1 called) s₀ s₁ s₂ (machG lay) sl (machF cfg) (vint w64 st) (vint w64 al) Post
@@ -519,27 +519,27 @@ module _ (K : OfRecords) (called : Name) {M : Type 1} (𝓤 : URA M) (H : Heap �
         assigns ! (of-opd ! (load ! (from ! (fld ! refl (stop !))) (look-in ! 46 (sub ! 1 refl (whole !))))) (from ! (stop !)) (init ! 26 refl (tt, record { fits = room₁ .0 })) $
         assigns ! (of-opd ! (load ! (from ! (fld ! refl (stop !))) (look-in ! 44 (sub ! 1 refl (whole !))))) (from ! (stop !)) (init ! 24 refl (tt, record { fits = room₂ .0 })) $
         assigns ! (of-opd ! (load ! (from ! (fld ! refl (stop !))) (look-in ! 40 (sub ! 1 refl (whole !))))) (from ! (stop !)) (init ! 22 refl (tt, record { fits = rooml .0 })) $
-        use0 W (raw (Planned 𝓤 H A mem run .pre to-plan)) goes-plan $
-        calls-at ! (fmOf 𝓤 H (W .laws) 𝓣) (Planned 𝓤 H A mem run) known-plan to-plan (and-then ! (load ! (from ! (stop !)) (look ! 29 refl)) (and-then ! (load ! (from ! (stop !)) (look ! 27 refl)) (and-then ! (load ! (from ! (stop !)) (look ! 25 refl)) (and-then ! (load ! (from ! (stop !)) (look ! 43 refl)) (and-then ! (load ! (from ! (stop !)) (look ! 23 refl)) (and-then ! (load ! (from ! (stop !)) (look ! 37 refl)) (and-then ! (load ! (from ! (stop !)) (look ! 35 refl)) (no-more !)))))))) (λ w.
-        use1 W (later (some (λ (r : PassPlan). (‵ ftrue ⊛ ‵ (P.the-row .own r (w ∷ []))) ⊛ raw (ensured 𝓤 H A planner.ended (planner.clauses 𝓤 H A mem run) tt asked tt r)))) (id⊢ 𝓤 _) $ await ! tt $ pick ! (λ r.
-        split ! $ move ! (1 ∷ []) $ use1 W (raw (fact 𝓤 (r ≡ plan))) (said r) $ heard ! (r ≡ plan) (λ e. split ! $ drop ! $ peeks ! P.the-row (Is P.the-row) (shows 𝓤 H A P.the-row) r (w ∷ []) (λ is. drop ! $
+        use0 W (raw (Judged 𝓤 H A mem run .pre to-plan)) goes-plan $
+        calls-at ! (fmOf 𝓤 H (W .laws) 𝓣) (Judged 𝓤 H A mem run) known-judge to-plan (and-then ! (load ! (from ! (stop !)) (look ! 29 refl)) (and-then ! (load ! (from ! (stop !)) (look ! 27 refl)) (and-then ! (load ! (from ! (stop !)) (look ! 25 refl)) (and-then ! (load ! (from ! (stop !)) (look ! 43 refl)) (and-then ! (load ! (from ! (stop !)) (look ! 23 refl)) (and-then ! (load ! (from ! (stop !)) (look ! 37 refl)) (and-then ! (load ! (from ! (stop !)) (look ! 35 refl)) (no-more !)))))))) (λ w.
+        use1 W (later (some (λ (r : Batch). (‵ ftrue ⊛ ‵ (P.the-row .own r (w ∷ []))) ⊛ raw (ensured 𝓤 H A judge.ended (judge.clauses 𝓤 H A mem run) tt asked tt r)))) (id⊢ 𝓤 _) $ await ! tt $ pick ! (λ r.
+        split ! $ move ! (1 ∷ []) $ use1 W (raw (fact 𝓤 (r ≡ batch))) (said r) $ heard ! (r ≡ batch) (λ e. split ! $ drop ! $ peeks ! P.the-row (Is P.the-row) (shows 𝓤 H A P.the-row) r (w ∷ []) (λ is. drop ! $
         land ! (from ! (stop !)) (init ! 32 refl (LL.lawful P.the-type P′.the-laws 𝓤 H A W .typed r _ is .0)) $
         rewrite ! 32 (λ (z : Val). ‵ (fat fullShare P′.mir l₉ 0 z)) (ap only (LL.tells P.the-type P′.the-laws r _ is)) refl $
-        by ! (after-plan r e (spelled r w is) 𝓣 known-step l₀ l₁ l₂ l₃ l₄ l₅ l₆ l₇ l₈ l₉ l₁₀ l₁₁ l₁₂ l₁₃ l₁₄ l₁₅ l₁₆ l₁₇ l₁₈ l₁₉ l₂₀ l₂₁ l₂₂ l₂₃ l₂₄ l₂₅ .prf))))))
+        by ! (after-judge r e (spelled r w is) 𝓣 known-step l₀ l₁ l₂ l₃ l₄ l₅ l₆ l₇ l₈ l₉ l₁₀ l₁₁ l₁₂ l₁₃ l₁₄ l₁₅ l₁₆ l₁₇ l₁₈ l₁₉ l₂₀ l₂₁ l₂₂ l₂₃ l₂₄ l₂₅ .prf))))))
 
 module _ (K : OfRecords) (called : Name) {M : Type 1} (𝓤 : URA M) (H : Heap 𝓤) (A : Atoms 𝓤) (W : Given 𝓤 H A) (mem : Memory → SProp 𝓤) (run : Routine → Fun 𝓤) where
-  filter-walks : (𝓣 : Tables 𝓤 H) → Triple 𝓤 (𝓣 .C #planner) (Planned 𝓤 H A mem run) → Triple 𝓤 (𝓣 .C called) (Stepped K 𝓤 H A)
+  filter-walks : (𝓣 : Tables 𝓤 H) → Triple 𝓤 (𝓣 .C #judge) (Judged 𝓤 H A mem run) → Triple 𝓤 (𝓣 .C called) (Stepped K 𝓤 H A)
       → Walks 𝓤 H A filter.ended stayed (WpFn 𝓤 H (𝓣 .C) (𝓣 .Λ) (function called)) (clauses K 𝓤)
-  filter-walks 𝓣 known-plan known-step = walked 𝓤 H A filter.ended stayed (clauses K 𝓤) (WpFn 𝓤 H (𝓣 .C) (𝓣 .Λ) (function called))
+  filter-walks 𝓣 known-judge known-step = walked 𝓤 H A filter.ended stayed (clauses K 𝓤) (WpFn 𝓤 H (𝓣 .C) (𝓣 .Λ) (function called))
       (λ κs. (slice-vals, (slice-vals, (slice-vals, (LL.vals G.the-type G′.the-laws, (slice-vals, (LL.vals F.the-type F′.the-laws, (uint-vals w64, (uint-vals w64, tt)))))))))
       (λ κs. (mut-slice-tells (named 0) (κs .0) u8, (mut-slice-tells (named 1) (κs .1 .0) u8, (mut-slice-tells (named 2) (κs .1 .1 .0) u8, (LL.tells G.the-type G′.the-laws, (shr-slice-tells (named 3) (κs .1 .1 .1 .0) R, (LL.tells F.the-type F′.the-laws, (uint-tells w64, (uint-tells w64, tt)))))))))
       (λ κs qs bounds a g are. via 𝓤 _ (fst∗ 𝓤 _ (emp 𝓤))
       (walk K called 𝓤 H A W mem run (κs .0) (κs .1 .0) (κs .1 .1 .0) (κs .1 .1 .1 .0) (qs .0) (qs .1 .0) (qs .1 .1 .0) (qs .1 .1 .1 .0)
       (a .0 .ptr .0) (a .0 .ptr .1) (a .0 .name) (a .0 .now) (a .1 .0 .ptr .0) (a .1 .0 .ptr .1) (a .1 .0 .name) (a .1 .0 .now) (a .1 .1 .0 .ptr .0) (a .1 .1 .0 .ptr .1) (a .1 .1 .0 .name) (a .1 .1 .0 .now) (a .1 .1 .1 .1 .0 .ptr .0) (a .1 .1 .1 .1 .0 .ptr .1) (a .1 .1 .1 .1 .0 .name) (a .1 .1 .1 .1 .0 .now) (a .1 .1 .1 .0) (a .1 .1 .1 .1 .1 .0) (a .1 .1 .1 .1 .1 .1 .0) (a .1 .1 .1 .1 .1 .1 .1 .0)
-      (are .0 .0 .1) (are .1 .0 .0 .1) (are .1 .1 .0 .0 .1) (are .1 .1 .1 .1 .0 .0 .1) (are .1 .1 .1 .0) (are .1 .1 .1 .1 .1 .0) (are .1 .1 .1 .1 .1 .1 .0 .1) (are .1 .1 .1 .1 .1 .1 .1 .0 .1) 𝓣 known-plan known-step))
+      (are .0 .0 .1) (are .1 .0 .0 .1) (are .1 .1 .0 .0 .1) (are .1 .1 .1 .1 .0 .0 .1) (are .1 .1 .1 .0) (are .1 .1 .1 .1 .1 .0) (are .1 .1 .1 .1 .1 .1 .0 .1) (are .1 .1 .1 .1 .1 .1 .1 .0 .1) 𝓣 known-judge known-step))
 
-  pub filter-meets : (𝓣 : Tables 𝓤 H) → Triple 𝓤 (𝓣 .C #planner) (Planned 𝓤 H A mem run) → Triple 𝓤 (𝓣 .C called) (Stepped K 𝓤 H A)
+  pub filter-meets : (𝓣 : Tables 𝓤 H) → Triple 𝓤 (𝓣 .C #judge) (Judged 𝓤 H A mem run) → Triple 𝓤 (𝓣 .C called) (Stepped K 𝓤 H A)
       → Meets 𝓤 H A filter.signature (WpFn 𝓤 H (𝓣 .C) (𝓣 .Λ) (function called)) (closing 𝓤 H A filter.ended (clauses K 𝓤))
-  filter-meets 𝓣 known-plan known-step =
+  filter-meets 𝓣 known-judge known-step =
       walk-meets 𝓤 H A filter.ended stayed W (goes-slice 𝓤 H A W 4 0 tt (plain (λ _. u8)), (goes-slice 𝓤 H A W 4 1 tt (plain (λ _. u8)), (goes-slice 𝓤 H A W 4 2 tt (plain (λ _. u8)), (goes-dropped 𝓤 H A W 4 (plain (λ _. G.the-row)) yes (λ κs x f. refl), (goes-dropped 𝓤 H A W 4 (shrSliceOf (3 ∷ []) tt (plain (λ _. R))) yes (λ κs x f. refl), (goes-dropped 𝓤 H A W 4 (plain (λ _. F.the-row)) yes (λ κs x f. refl), (goes-dropped 𝓤 H A W 4 (plain (λ _. usize)) yes (λ κs x f. refl), (goes-dropped 𝓤 H A W 4 (plain (λ _. usize)) yes (λ κs x f. refl), tt))))))))
-      (clauses K 𝓤) (WpFn 𝓤 H (𝓣 .C) (𝓣 .Λ) (function called)) (WpFn-mono 𝓤 H (W .laws) 𝓣 (function called)) (filter-walks 𝓣 known-plan known-step)
+      (clauses K 𝓤) (WpFn 𝓤 H (𝓣 .C) (𝓣 .Λ) (function called)) (WpFn-mono 𝓤 H (W .laws) 𝓣 (function called)) (filter-walks 𝓣 known-judge known-step)

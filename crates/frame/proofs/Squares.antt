@@ -6,12 +6,12 @@ use Prim.Native.Nat.{ℕ, _+_, _-_, _*_, _/_, _%_, _≤_, _<_}
 use native.Mathlib.Nat.{add-mul, mul-le-mul-left, mul-le-mul-right, mod-lt, div-lt-iff-lt-mul, mul-comm, le-trans}
 use native.Mathlib.Omega.{arith}
 use lib.ListN.{length}
-use Rattle.frame.specs.Planes.{Plane, luma, chromaU, chromaV, Planes, Grid, side, stride, plane, macroblocks, gridRow, gridColumn, StridesHold, PlanesHold}
-use Rattle.frame.specs.PlaneCode.{Square}
-use Rattle.frame.specs.Layout.{gridOf, planesOf}
-use Rattle.frame.specs.Step.{Sound}
-use Rattle.frame.specs.declared.layout.PlaneLayout.{PlaneLayout}
-use Rattle.frame.proofs.Fits.{side-least, factor-positive, square-within}
+use Rattle.planes.specs.Planes.{Plane, luma, chromaU, chromaV, Planes, Grid, side, stride, plane, macroblocks, gridRow, gridColumn, StridesHold, PlanesHold}
+use Rattle.frame.specs.Private.PlaneEdges.{Square}
+use Rattle.planes.specs.Layout.{gridOf, planesOf}
+use Rattle.frame.specs.Private.Ranges.{Sound}
+use Rattle.planes.specs.declared.layout.PlaneLayout.{PlaneLayout}
+use Rattle.planes.proofs.Fits.{side-least, factor-positive, square-within}
 
 -- a product is at least its factor
 pub factor-le : (n s : ℕ) → 0 < s → n ≤ n * s

@@ -1,36 +1,34 @@
 // One plane of a macroblock under the normal filter, its edges in order (RFC 6386, section 15.1): left border, inner vertical edges,
 // upper border, inner horizontal edges. `corner` is the index of the square's first sample.
-use crate::horizontal::h_mb8;
-use crate::horizontal::h_mb16;
-use crate::horizontal::h_sub8;
-use crate::horizontal::h_sub16;
-use crate::vertical::v_mb;
-use crate::vertical::v_sub;
+use edges::horizontal;
+use edges::vertical;
 use kernels::limits::LoopFilterParams;
 ghost use mathlib.Core.Path.{_≡_};
 ghost use mathlib.Core.Bool.{cond};
 ghost use Prim.Native.Nat.{_+_, _*_, _-_, _≤_, _<_};
 ghost use lib.ListN.{length};
-ghost use Rattle.frame.specs.Edges.{vertical, horizontal};
-ghost use Rattle.frame.specs.EdgeCode.{edgeFrom};
-ghost use Rattle.frame.specs.PlaneCode.{Square, leftFrom, topFrom, threeVertical, threeHorizontal, lumaFrom, chromaFrom};
-ghost use Rattle.frame.specs.Limits.{outerOf, innerOf};
+ghost use Rattle.planes.specs.Edges.{vertical, horizontal};
+ghost use Rattle.edges.specs.EdgeFrom.{edgeFrom};
+ghost use Rattle.edges.specs.NormalKernels.{outerOf, innerOf};
+ghost use Rattle.frame.specs.Private.PlaneEdges.{Square, leftFrom, topFrom, threeVertical, threeHorizontal, lumaFrom, chromaFrom};
 
-fn left(
-    plane: &mut [u8],
-    stride: usize,
-    corner: usize,
-    side: usize,
-    column: usize,
-    limits: LoopFilterParams,
-)
-    requires { ⌜ corner + (side - 1) * stride + side ≤ length (now plane) ⌝ }
-    requires { ⌜ 4 ≤ side ⌝ }
+fn left16(plane: &mut [u8], stride: usize, corner: usize, column: usize, limits: LoopFilterParams)
+    requires { ⌜ corner + 15 * stride + 16 ≤ length (now plane) ⌝ }
     requires { ⌜ (0 < column → 4 ≤ corner) ⌝ }
-    ensures { λ _. ⌜ now (plane .exit) ≡ leftFrom (outerOf limits) 4 side stride corner column (now (plane .entry)) ⌝ }
+    ensures { λ _. ⌜ now (plane .exit) ≡ leftFrom (outerOf limits) 4 16 stride corner column (now (plane .entry)) ⌝ }
 {
     if 0 < column {
-        v_mb(plane, stride, corner - 4, side, limits);
+        vertical::mb_edge16(plane, stride, corner - 4, limits);
+    }
+}
+
+fn left8(plane: &mut [u8], stride: usize, corner: usize, column: usize, limits: LoopFilterParams)
+    requires { ⌜ corner + 7 * stride + 8 ≤ length (now plane) ⌝ }
+    requires { ⌜ (0 < column → 4 ≤ corner) ⌝ }
+    ensures { λ _. ⌜ now (plane .exit) ≡ leftFrom (outerOf limits) 4 8 stride corner column (now (plane .entry)) ⌝ }
+{
+    if 0 < column {
+        vertical::mb_edge8(plane, stride, corner - 4, limits);
     }
 }
 
@@ -45,9 +43,9 @@ fn inner_vertical16(
     ensures { λ _. ⌜ now (plane .exit) ≡ cond inside (threeVertical (innerOf limits) stride corner (now (plane .entry))) (now (plane .entry)) ⌝ }
 {
     if inside {
-        v_sub(plane, stride, corner, 16, limits);
-        v_sub(plane, stride, corner + 4, 16, limits);
-        v_sub(plane, stride, corner + 8, 16, limits);
+        vertical::subblock_edge16(plane, stride, corner, limits);
+        vertical::subblock_edge16(plane, stride, corner + 4, limits);
+        vertical::subblock_edge16(plane, stride, corner + 8, limits);
     }
 }
 
@@ -62,7 +60,7 @@ fn inner_vertical8(
     ensures { λ _. ⌜ now (plane .exit) ≡ cond inside (edgeFrom vertical (innerOf limits) stride corner 8 (now (plane .entry))) (now (plane .entry)) ⌝ }
 {
     if inside {
-        v_sub(plane, stride, corner, 8, limits);
+        vertical::subblock_edge8(plane, stride, corner, limits);
     }
 }
 
@@ -73,7 +71,7 @@ fn top16(plane: &mut [u8], stride: usize, corner: usize, row: usize, limits: Loo
     ensures { λ _. ⌜ now (plane .exit) ≡ topFrom (outerOf limits) 4 16 stride corner row (now (plane .entry)) ⌝ }
 {
     if 0 < row {
-        h_mb16(plane, stride, corner - 4 * stride, limits);
+        horizontal::mb_edge16(plane, stride, corner - 4 * stride, limits);
     }
 }
 
@@ -84,7 +82,7 @@ fn top8(plane: &mut [u8], stride: usize, corner: usize, row: usize, limits: Loop
     ensures { λ _. ⌜ now (plane .exit) ≡ topFrom (outerOf limits) 4 8 stride corner row (now (plane .entry)) ⌝ }
 {
     if 0 < row {
-        h_mb8(plane, stride, corner - 4 * stride, limits);
+        horizontal::mb_edge8(plane, stride, corner - 4 * stride, limits);
     }
 }
 
@@ -100,9 +98,9 @@ fn inner_horizontal16(
     ensures { λ _. ⌜ now (plane .exit) ≡ cond inside (threeHorizontal (innerOf limits) stride corner (now (plane .entry))) (now (plane .entry)) ⌝ }
 {
     if inside {
-        h_sub16(plane, stride, corner, limits);
-        h_sub16(plane, stride, corner + 4 * stride, limits);
-        h_sub16(plane, stride, corner + 8 * stride, limits);
+        horizontal::subblock_edge16(plane, stride, corner, limits);
+        horizontal::subblock_edge16(plane, stride, corner + 4 * stride, limits);
+        horizontal::subblock_edge16(plane, stride, corner + 8 * stride, limits);
     }
 }
 
@@ -118,7 +116,7 @@ fn inner_horizontal8(
     ensures { λ _. ⌜ now (plane .exit) ≡ cond inside (edgeFrom horizontal (innerOf limits) stride corner 8 (now (plane .entry))) (now (plane .entry)) ⌝ }
 {
     if inside {
-        h_sub8(plane, stride, corner, limits);
+        horizontal::subblock_edge8(plane, stride, corner, limits);
     }
 }
 
@@ -134,7 +132,7 @@ pub(crate) fn luma(
     requires { ⌜ Square 16 stride corner row column (length (now plane)) ⌝ }
     ensures { λ _. ⌜ now (plane .exit) ≡ lumaFrom (outerOf limits) (innerOf limits) inside 4 stride corner corner corner row column (now (plane .entry)) ⌝ }
 {
-    left(plane, stride, corner, 16, column, limits);
+    left16(plane, stride, corner, column, limits);
     inner_vertical16(plane, stride, corner, limits, inside);
     top16(plane, stride, corner, row, limits);
     inner_horizontal16(plane, stride, corner, limits, inside);
@@ -152,7 +150,7 @@ pub(crate) fn chroma(
     requires { ⌜ Square 8 stride corner row column (length (now plane)) ⌝ }
     ensures { λ _. ⌜ now (plane .exit) ≡ chromaFrom (outerOf limits) (innerOf limits) inside stride corner row column (now (plane .entry)) ⌝ }
 {
-    left(plane, stride, corner, 8, column, limits);
+    left8(plane, stride, corner, column, limits);
     inner_vertical8(plane, stride, corner, limits, inside);
     top8(plane, stride, corner, row, limits);
     inner_horizontal8(plane, stride, corner, limits, inside);

@@ -1,25 +1,25 @@
 // The passes over a frame, in raster order, halted and resumed by start and allowance (document 01, Passes and Halting).
-use crate::answers::PassAnswer;
-use crate::entries::alike3;
-use crate::entries::alike5;
-use crate::entries::any_above;
-use crate::entries::bad_entries;
-use crate::entries::inner_edges;
-use crate::layout::PlaneLayout;
-use crate::plan::plan_pass;
 use crate::step::filter_macroblock;
+use calls::answers::PassAnswer;
+use judge::batch::judge_call;
+use judge::entries::any_above;
+use judge::entries::bad_entries;
+use judge::entries::equal_lengths3;
+use judge::entries::equal_lengths5;
+use judge::entries::inner_edges;
 use levels::config::FrameFilterConfig;
 use levels::level::key_mb_level;
 use levels::level::mb_level;
+use planes::layout::PlaneLayout;
 ghost use mathlib.Core.Path.{_≡_};
 ghost use Prim.Native.Nat.{_-_};
-ghost use Rattle.frame.specs.Answers.{passOutcome};
-ghost use Rattle.frame.specs.Entries.{keyEntry, interEntry};
-ghost use Rattle.frame.specs.Layout.{gridOf, planesOf};
-ghost use Rattle.frame.specs.Pass.{keyPass, interPass, answer, planesAfter, step};
-ghost use Rattle.frame.specs.PassCalls.{keyCall, interCall, keyLists, interLists};
-ghost use Rattle.frame.specs.Step.{KeyRange, InterRange};
-ghost use Rattle.frame.specs.Steps.{steps};
+ghost use Rattle.calls.specs.Answers.{Passed};
+ghost use Rattle.calls.specs.Entries.{keyEntry, interEntry};
+ghost use Rattle.planes.specs.Layout.{gridOf, planesOf};
+ghost use Rattle.calls.specs.Pass.{keyPass, interPass, step};
+ghost use Rattle.calls.specs.PassCalls.{keyCall, interCall, keyLists, interLists};
+ghost use Rattle.frame.specs.Private.Ranges.{KeyRange, InterRange};
+ghost use Rattle.planes.specs.Steps.{steps};
 
 // Macroblocks `from` to `to` - 1 of the key pass.
 fn filter_key_range(
@@ -35,7 +35,9 @@ fn filter_key_range(
     to: usize,
 )
     requires { ⌜ KeyRange layout (planesOf (now y) (now u) (now v)) (keyLists (now modes) (now segments) (now flags)) from to ⌝ }
-    ensures { λ _. ⌜ planesOf (now (y .exit)) (now (u .exit)) (now (v .exit)) ≡ steps (step keyPass (gridOf layout) config (keyEntry (keyLists (now (modes .entry)) (now (segments .entry)) (now (flags .entry))))) from (to - from) (planesOf (now (y .entry)) (now (u .entry)) (now (v .entry))) ⌝ }
+    ensures { λ _. ⌜ planesOf (now (y .exit)) (now (u .exit)) (now (v .exit))
+        ≡ steps (step keyPass (gridOf layout) config (keyEntry (keyLists (now (modes .entry)) (now (segments .entry)) (now (flags .entry)))))
+        from (to - from) (planesOf (now (y .entry)) (now (u .entry)) (now (v .entry))) ⌝ }
 {
     let mut m = from;
     while m < to {
@@ -62,8 +64,12 @@ fn filter_inter_range(
     from: usize,
     to: usize,
 )
-    requires { ⌜ InterRange layout (planesOf (now y) (now u) (now v)) (interLists (now modes) (now segments) (now flags) (now references) (now «inter_modes»)) from to ⌝ }
-    ensures { λ _. ⌜ planesOf (now (y .exit)) (now (u .exit)) (now (v .exit)) ≡ steps (step interPass (gridOf layout) config (interEntry (interLists (now (modes .entry)) (now (segments .entry)) (now (flags .entry)) (now (references .entry)) (now («inter_modes» .entry))))) from (to - from) (planesOf (now (y .entry)) (now (u .entry)) (now (v .entry))) ⌝ }
+    requires { ⌜ InterRange layout (planesOf (now y) (now u) (now v))
+        (interLists (now modes) (now segments) (now flags) (now references) (now «inter_modes»)) from to ⌝ }
+    ensures { λ _. ⌜ planesOf (now (y .exit)) (now (u .exit)) (now (v .exit))
+        ≡ steps (step interPass (gridOf layout) config (interEntry
+        (interLists (now (modes .entry)) (now (segments .entry)) (now (flags .entry)) (now (references .entry)) (now («inter_modes» .entry)))))
+        from (to - from) (planesOf (now (y .entry)) (now (u .entry)) (now (v .entry))) ⌝ }
 {
     let mut m = from;
     while m < to {
@@ -88,12 +94,14 @@ pub fn filter_frame(
     start: usize,
     allowance: usize,
 ) -> PassAnswer
-    ensures answered { λ r. ⌜ passOutcome r ≡ answer keyPass (keyCall (planesOf (now (y .entry)) (now (u .entry)) (now (v .entry))) layout (keyLists (now (modes .entry)) (now (segments .entry)) (now (flags .entry))) config start allowance) ⌝ }
-    ensures filtered { λ _. ⌜ planesOf (now (y .exit)) (now (u .exit)) (now (v .exit)) ≡ planesAfter keyPass (keyCall (planesOf (now (y .entry)) (now (u .entry)) (now (v .entry))) layout (keyLists (now (modes .entry)) (now (segments .entry)) (now (flags .entry))) config start allowance) ⌝ }
+    ensures { λ r. ⌜ Passed keyPass
+        (keyCall (planesOf (now (y .entry)) (now (u .entry)) (now (v .entry))) layout
+        (keyLists (now (modes .entry)) (now (segments .entry)) (now (flags .entry))) config start allowance)
+        r (planesOf (now (y .exit)) (now (u .exit)) (now (v .exit))) ⌝ }
 {
-    let alike = alike3(modes.len(), segments.len(), flags.len());
+    let alike = equal_lengths3(modes.len(), segments.len(), flags.len());
     let bad = any_above(modes, 4);
-    let plan = plan_pass(
+    let batch = judge_call(
         y.len(),
         u.len(),
         v.len(),
@@ -113,10 +121,10 @@ pub fn filter_frame(
         segments,
         flags,
         config,
-        plan.from,
-        plan.to,
+        batch.from,
+        batch.to,
     );
-    plan.answer
+    batch.answer
 }
 
 // The inter pass.
@@ -134,10 +142,13 @@ pub fn filter_inter_frame(
     start: usize,
     allowance: usize,
 ) -> PassAnswer
-    ensures answered { λ r. ⌜ passOutcome r ≡ answer interPass (interCall (planesOf (now (y .entry)) (now (u .entry)) (now (v .entry))) layout (interLists (now (modes .entry)) (now (segments .entry)) (now (flags .entry)) (now (references .entry)) (now («inter_modes» .entry))) config start allowance) ⌝ }
-    ensures filtered { λ _. ⌜ planesOf (now (y .exit)) (now (u .exit)) (now (v .exit)) ≡ planesAfter interPass (interCall (planesOf (now (y .entry)) (now (u .entry)) (now (v .entry))) layout (interLists (now (modes .entry)) (now (segments .entry)) (now (flags .entry)) (now (references .entry)) (now («inter_modes» .entry))) config start allowance) ⌝ }
+    ensures { λ r. ⌜ Passed interPass
+        (interCall (planesOf (now (y .entry)) (now (u .entry)) (now (v .entry))) layout
+        (interLists (now (modes .entry)) (now (segments .entry)) (now (flags .entry)) (now (references .entry)) (now («inter_modes» .entry)))
+        config start allowance)
+        r (planesOf (now (y .exit)) (now (u .exit)) (now (v .exit))) ⌝ }
 {
-    let alike = alike5(
+    let alike = equal_lengths5(
         modes.len(),
         segments.len(),
         flags.len(),
@@ -145,7 +156,7 @@ pub fn filter_inter_frame(
         inter_modes.len(),
     );
     let bad = bad_entries(modes, references, inter_modes);
-    let plan = plan_pass(
+    let batch = judge_call(
         y.len(),
         u.len(),
         v.len(),
@@ -167,8 +178,8 @@ pub fn filter_inter_frame(
         references,
         inter_modes,
         config,
-        plan.from,
-        plan.to,
+        batch.from,
+        batch.to,
     );
-    plan.answer
+    batch.answer
 }

@@ -1,15 +1,15 @@
 // The passes over a lent list of macroblock records, one a macroblock (document 01, Option lists). The bytes that a record stands for are none that 6 refuses.
-use crate::answers::PassAnswer;
-use crate::layout::PlaneLayout;
 use crate::record_step::inter_step;
+use crate::record_step::judge_records;
 use crate::record_step::key_step;
-use crate::record_step::plan_records;
-use crate::records::MacroblockModes;
+use calls::answers::PassAnswer;
+use calls::records::MacroblockModes;
 use levels::config::FrameFilterConfig;
-ghost use Rattle.frame.specs.Answers.{Passed};
-ghost use Rattle.frame.specs.Layout.{planesOf};
-ghost use Rattle.frame.specs.Pass.{keyPass, interPass};
-ghost use Rattle.frame.specs.PassCalls.{keyRecordsCall, interRecordsCall};
+use planes::layout::PlaneLayout;
+ghost use Rattle.calls.specs.Answers.{Passed};
+ghost use Rattle.planes.specs.Layout.{planesOf};
+ghost use Rattle.calls.specs.Pass.{keyPass, interPass};
+ghost use Rattle.calls.specs.PassCalls.{keyRecordsCall, interRecordsCall};
 
 // The key pass. It ignores reference and inter mode.
 pub fn filter_frame_records(
@@ -22,9 +22,11 @@ pub fn filter_frame_records(
     start: usize,
     allowance: usize,
 ) -> PassAnswer
-    ensures { λ r. ⌜ Passed keyPass (keyRecordsCall (planesOf (now (y .entry)) (now (u .entry)) (now (v .entry))) layout (now (list .entry)) config start allowance) r (planesOf (now (y .exit)) (now (u .exit)) (now (v .exit))) ⌝ }
+    ensures { λ r. ⌜ Passed keyPass
+        (keyRecordsCall (planesOf (now (y .entry)) (now (u .entry)) (now (v .entry))) layout (now (list .entry)) config start allowance)
+        r (planesOf (now (y .exit)) (now (u .exit)) (now (v .exit))) ⌝ }
 {
-    let plan = plan_records(
+    let batch = judge_records(
         y.len(),
         u.len(),
         v.len(),
@@ -33,12 +35,12 @@ pub fn filter_frame_records(
         start,
         allowance,
     );
-    let mut m = plan.from;
-    while m < plan.to {
+    let mut m = batch.from;
+    while m < batch.to {
         key_step(y, u, v, layout, config, m, list[m]);
         m += 1;
     }
-    plan.answer
+    batch.answer
 }
 
 // The inter pass.
@@ -52,9 +54,11 @@ pub fn filter_inter_frame_records(
     start: usize,
     allowance: usize,
 ) -> PassAnswer
-    ensures { λ r. ⌜ Passed interPass (interRecordsCall (planesOf (now (y .entry)) (now (u .entry)) (now (v .entry))) layout (now (list .entry)) config start allowance) r (planesOf (now (y .exit)) (now (u .exit)) (now (v .exit))) ⌝ }
+    ensures { λ r. ⌜ Passed interPass
+        (interRecordsCall (planesOf (now (y .entry)) (now (u .entry)) (now (v .entry))) layout (now (list .entry)) config start allowance)
+        r (planesOf (now (y .exit)) (now (u .exit)) (now (v .exit))) ⌝ }
 {
-    let plan = plan_records(
+    let batch = judge_records(
         y.len(),
         u.len(),
         v.len(),
@@ -63,10 +67,10 @@ pub fn filter_inter_frame_records(
         start,
         allowance,
     );
-    let mut m = plan.from;
-    while m < plan.to {
+    let mut m = batch.from;
+    while m < batch.to {
         inter_step(y, u, v, layout, config, m, list[m]);
         m += 1;
     }
-    plan.answer
+    batch.answer
 }

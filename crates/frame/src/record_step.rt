@@ -1,10 +1,9 @@
 // What the passes do with one macroblock record: the bytes that it stands for, its level, whether its inner edges are filtered, and its step.
-use crate::layout::PlaneLayout;
-use crate::plan::PassPlan;
-use crate::plan::plan_pass;
-use crate::records::MacroblockModes;
-use crate::records::MaybeSegment;
 use crate::step::filter_macroblock;
+use calls::records::MacroblockModes;
+use calls::records::MaybeSegment;
+use judge::batch::Batch;
+use judge::batch::judge_call;
 use levels::config::FrameFilterConfig;
 use levels::level::key_mb_level;
 use levels::level::mb_level;
@@ -13,6 +12,7 @@ use levels::modes::IntraYMode;
 use levels::modes::MaybeInter;
 use levels::modes::MaybeRef;
 use levels::modes::RefFrame;
+use planes::layout::PlaneLayout;
 ghost use mathlib.Core.Bool.{true, false};
 ghost use mathlib.Core.Path.{_≡_};
 ghost use Prim.Native.Nat.{_<_};
@@ -20,13 +20,13 @@ ghost use Rattle.levels.specs.Encodings.{modeByte, referenceByte, interModeByte
 ghost use Rattle.levels.specs.Levels.{keyLevel, interLevel};
 ghost use Rattle.levels.specs.declared.modes.MaybeInter.the-variants as inter;
 ghost use Rattle.levels.specs.declared.modes.MaybeRef.the-variants as reference;
-ghost use Rattle.frame.specs.Entries.{segmentByte, keyRecord, interRecord};
-ghost use Rattle.frame.specs.Layout.{gridOf, planesOf};
-ghost use Rattle.frame.specs.Macroblock.{filterMacroblock};
-ghost use Rattle.frame.specs.Pass.{insideOf, keyPlan, interPlan};
-ghost use Rattle.frame.specs.Planes.{macroblocks};
-ghost use Rattle.frame.specs.Planner.{otherThan, planOf};
-ghost use Rattle.frame.specs.Step.{Sound};
+ghost use Rattle.calls.specs.Entries.{segmentByte, keyRecord, interRecord};
+ghost use Rattle.planes.specs.Layout.{gridOf, planesOf};
+ghost use Rattle.planes.specs.Macroblock.{filterMacroblock};
+ghost use Rattle.calls.specs.Pass.{insideOf, keyPlan, interPlan};
+ghost use Rattle.planes.specs.Planes.{macroblocks};
+ghost use Rattle.judge.specs.Batches.{lengthsWrong, seen, batchOf};
+ghost use Rattle.frame.specs.Private.Ranges.{Sound};
 
 // Document 01's byte of each case.
 fn mode_byte(mode: IntraYMode) -> u8
@@ -51,7 +51,7 @@ fn segment_byte(segment: MaybeSegment) -> u8
     }
 }
 
-fn frame_byte(frame: RefFrame) -> u8
+fn present_reference_byte(frame: RefFrame) -> u8
     ensures { λ r. ⌜ r ≡ referenceByte (reference.Present frame) ⌝ }
 {
     match frame {
@@ -66,14 +66,14 @@ fn reference_byte(reference: MaybeRef) -> u8
 {
     match reference {
         MaybeRef::Absent => 0,
-        MaybeRef::Present(frame) => frame_byte(frame),
+        MaybeRef::Present(frame) => present_reference_byte(frame),
     }
 }
 
-fn way_byte(way: InterMode) -> u8
-    ensures { λ r. ⌜ r ≡ interModeByte (inter.Present way) ⌝ }
+fn present_inter_mode_byte(mode: InterMode) -> u8
+    ensures { λ r. ⌜ r ≡ interModeByte (inter.Present mode) ⌝ }
 {
-    match way {
+    match mode {
         InterMode::Zero => 1,
         InterMode::Nearest => 2,
         InterMode::Near => 3,
@@ -87,7 +87,7 @@ fn inter_mode_byte(inter_mode: MaybeInter) -> u8
 {
     match inter_mode {
         MaybeInter::Absent => 0,
-        MaybeInter::Present(way) => way_byte(way),
+        MaybeInter::Present(mode) => present_inter_mode_byte(mode),
     }
 }
 
@@ -103,7 +103,8 @@ fn key_record_level(config: FrameFilterConfig, mb: MacroblockModes) -> u8
 }
 
 fn inter_record_level(config: FrameFilterConfig, mb: MacroblockModes) -> u8
-    ensures { λ r. ⌜ r ≡ interLevel config (interRecord mb .segment) (interRecord mb .reference) (interRecord mb .interMode) (interRecord mb .mode) ⌝ }
+    ensures { λ r. ⌜ r ≡ interLevel config (interRecord mb .segment) (interRecord mb .reference)
+        (interRecord mb .interMode) (interRecord mb .mode) ⌝ }
 {
     let y_mode = mb.y_mode;
     let segment_id = mb.segment_id;
@@ -112,8 +113,8 @@ fn inter_record_level(config: FrameFilterConfig, mb: MacroblockModes) -> u8
     let mode = mode_byte(y_mode);
     let segment = segment_byte(segment_id);
     let reference = reference_byte(ref_frame);
-    let way = inter_mode_byte(inter_mode);
-    mb_level(config, segment, reference, way, mode)
+    let inter_byte = inter_mode_byte(inter_mode);
+    mb_level(config, segment, reference, inter_byte, mode)
 }
 
 // The mode is B, or there are coefficients.
@@ -136,7 +137,8 @@ pub(crate) fn key_step(
     mb: MacroblockModes,
 )
     requires { ⌜ Sound layout (now y) (now u) (now v) × (m < macroblocks (gridOf layout)) ⌝ }
-    ensures { λ _. ⌜ planesOf (now (y .exit)) (now (u .exit)) (now (v .exit)) ≡ filterMacroblock (gridOf layout) (λ _. keyPlan config (keyRecord mb)) m (planesOf (now (y .entry)) (now (u .entry)) (now (v .entry))) ⌝ }
+    ensures { λ _. ⌜ planesOf (now (y .exit)) (now (u .exit)) (now (v .exit))
+        ≡ filterMacroblock (gridOf layout) (λ _. keyPlan config (keyRecord mb)) m (planesOf (now (y .entry)) (now (u .entry)) (now (v .entry))) ⌝ }
 {
     let level = key_record_level(config, mb);
     let inside = record_inner_edges(mb);
@@ -154,7 +156,8 @@ pub(crate) fn inter_step(
     mb: MacroblockModes,
 )
     requires { ⌜ Sound layout (now y) (now u) (now v) × (m < macroblocks (gridOf layout)) ⌝ }
-    ensures { λ _. ⌜ planesOf (now (y .exit)) (now (u .exit)) (now (v .exit)) ≡ filterMacroblock (gridOf layout) (λ _. interPlan config (interRecord mb)) m (planesOf (now (y .entry)) (now (u .entry)) (now (v .entry))) ⌝ }
+    ensures { λ _. ⌜ planesOf (now (y .exit)) (now (u .exit)) (now (v .exit))
+        ≡ filterMacroblock (gridOf layout) (λ _. interPlan config (interRecord mb)) m (planesOf (now (y .entry)) (now (u .entry)) (now (v .entry))) ⌝ }
 {
     let level = inter_record_level(config, mb);
     let inside = record_inner_edges(mb);
@@ -162,7 +165,7 @@ pub(crate) fn inter_step(
 }
 
 // What a pass over so many records is to do. No record stands for a byte that 6 refuses.
-pub(crate) fn plan_records(
+pub(crate) fn judge_records(
     y_len: usize,
     u_len: usize,
     v_len: usize,
@@ -170,10 +173,11 @@ pub(crate) fn plan_records(
     entries: usize,
     start: usize,
     allowance: usize,
-) -> PassPlan
-    ensures { λ r. ⌜ r ≡ planOf (record { grid = gridOf layout; yLength = «y_len»; uLength = «u_len»; vLength = «v_len»; otherLength = otherThan true entries (macroblocks (gridOf layout)); badEntry = false; start = start; allowance = allowance }) ⌝ }
+) -> Batch
+    ensures { λ r. ⌜ r ≡ batchOf (seen (gridOf layout) «y_len» «u_len» «v_len»
+        (lengthsWrong true entries (macroblocks (gridOf layout))) false start allowance) ⌝ }
 {
-    plan_pass(
+    judge_call(
         y_len,
         u_len,
         v_len,

@@ -1,13 +1,13 @@
 // The luma plane of a macroblock under the simple filter (RFC 6386, section 15.2), its edges in order: left border, inner vertical
 // edges, upper border, inner horizontal edges. `corner` is the index of the square's first sample.
-use crate::horizontal::h_simple;
-use crate::vertical::v_simple;
+use edges::horizontal;
+use edges::vertical;
 ghost use mathlib.Core.Path.{_≡_};
 ghost use mathlib.Core.Bool.{cond};
 ghost use Prim.Native.Nat.{_+_, _*_, _-_, _≤_, _<_};
 ghost use lib.ListN.{length};
 ghost use Rattle.kernels.specs.Segment.{simpleSegment};
-ghost use Rattle.frame.specs.PlaneCode.{Square, leftFrom, topFrom, threeVertical, threeHorizontal, lumaFrom};
+ghost use Rattle.frame.specs.Private.PlaneEdges.{Square, leftFrom, topFrom, threeVertical, threeHorizontal, lumaFrom};
 
 fn left(plane: &mut [u8], stride: usize, corner: usize, column: usize, edge: u8)
     requires { ⌜ corner + 15 * stride + 16 ≤ length (now plane) ⌝ }
@@ -15,7 +15,7 @@ fn left(plane: &mut [u8], stride: usize, corner: usize, column: usize, edge: u8)
     ensures { λ _. ⌜ now (plane .exit) ≡ leftFrom (simpleSegment edge) 2 16 stride corner column (now (plane .entry)) ⌝ }
 {
     if 0 < column {
-        v_simple(plane, stride, corner - 2, edge);
+        vertical::simple_edge16(plane, stride, corner - 2, edge);
     }
 }
 
@@ -24,9 +24,9 @@ fn inner_vertical(plane: &mut [u8], stride: usize, first: usize, edge: u8, insid
     ensures { λ _. ⌜ now (plane .exit) ≡ cond inside (threeVertical (simpleSegment edge) stride first (now (plane .entry))) (now (plane .entry)) ⌝ }
 {
     if inside {
-        v_simple(plane, stride, first, edge);
-        v_simple(plane, stride, first + 4, edge);
-        v_simple(plane, stride, first + 8, edge);
+        vertical::simple_edge16(plane, stride, first, edge);
+        vertical::simple_edge16(plane, stride, first + 4, edge);
+        vertical::simple_edge16(plane, stride, first + 8, edge);
     }
 }
 
@@ -37,7 +37,7 @@ fn top(plane: &mut [u8], stride: usize, corner: usize, row: usize, edge: u8)
     ensures { λ _. ⌜ now (plane .exit) ≡ topFrom (simpleSegment edge) 2 16 stride corner row (now (plane .entry)) ⌝ }
 {
     if 0 < row {
-        h_simple(plane, stride, corner - 2 * stride, edge);
+        horizontal::simple_edge16(plane, stride, corner - 2 * stride, edge);
     }
 }
 
@@ -47,9 +47,9 @@ fn inner_horizontal(plane: &mut [u8], stride: usize, first: usize, edge: u8, ins
     ensures { λ _. ⌜ now (plane .exit) ≡ cond inside (threeHorizontal (simpleSegment edge) stride first (now (plane .entry))) (now (plane .entry)) ⌝ }
 {
     if inside {
-        h_simple(plane, stride, first, edge);
-        h_simple(plane, stride, first + 4 * stride, edge);
-        h_simple(plane, stride, first + 8 * stride, edge);
+        horizontal::simple_edge16(plane, stride, first, edge);
+        horizontal::simple_edge16(plane, stride, first + 4 * stride, edge);
+        horizontal::simple_edge16(plane, stride, first + 8 * stride, edge);
     }
 }
 

@@ -1,20 +1,20 @@
 // The step of one macroblock (RFC 6386, section 15.1). No plane's edges depend on another plane's samples, so each plane is done whole.
-use crate::layout::PlaneLayout;
 use crate::normal;
 use crate::simple;
 use kernels::limits::LoopFilterParams;
 use levels::config::FrameFilterConfig;
+use planes::layout::PlaneLayout;
 ghost use mathlib.Core.Path.{_≡_};
 ghost use Prim.Native.Nat.{_+_, _*_, _/_, _%_, _≤_, _<_};
 ghost use lib.ListN.{length};
 ghost use Rattle.kernels.specs.Segment.{simpleSegment};
-ghost use Rattle.frame.specs.Layout.{gridOf, planesOf};
-ghost use Rattle.frame.specs.Limits.{outerOf, innerOf};
-ghost use Rattle.frame.specs.Macroblock.{filterMacroblock};
-ghost use Rattle.frame.specs.Pass.{planAt, planWith};
-ghost use Rattle.frame.specs.PlaneCode.{Square, lumaFrom, chromaFrom};
-ghost use Rattle.frame.specs.Planes.{macroblocks};
-ghost use Rattle.frame.specs.Step.{Sound};
+ghost use Rattle.planes.specs.Layout.{gridOf, planesOf};
+ghost use Rattle.edges.specs.NormalKernels.{outerOf, innerOf};
+ghost use Rattle.planes.specs.Macroblock.{filterMacroblock};
+ghost use Rattle.calls.specs.Pass.{planAt, planWith};
+ghost use Rattle.frame.specs.Private.PlaneEdges.{Square, lumaFrom, chromaFrom};
+ghost use Rattle.planes.specs.Planes.{macroblocks};
+ghost use Rattle.frame.specs.Private.Ranges.{Sound};
 
 // The luma plane under the normal filter.
 fn normal_luma(

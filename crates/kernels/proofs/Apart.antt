@@ -9,7 +9,7 @@ use lib.Dec.{leb, ltb}
 use borrow.Author.Tests.{le-ltb, lt-ltb, le-leb, lt-leb, leb-true, leb-false, ltb-true, ltb-false}
 use Rattle.kernels.specs.Numbers.{u2s}
 use Rattle.kernels.specs.Kernels.{apart, edgeValue, simpleYes, filterYes, hev, segmentYes, segmentHev}
-use Rattle.kernels.specs.Windows.{neighboursNear, lowVariance}
+use Rattle.kernels.specs.Private.Windows.{neighboursNear, lowVariance}
 
 pos-sub : (a b : ℕ) → pos a -ℤ pos b ≡ subℕ a b
 pos-sub a zero = ap pos (omega arith) ∙ sym (ap (λ (t : Bool). cond t (negsuc (0 - suc a)) (pos (a - 0))) (le-ltb a 0 (omega arith)))

@@ -13,7 +13,7 @@ use mir.Syntax.{Width, w8}
 use mir.Val.{Fits, toZ}
 use Rattle.kernels.specs.Numbers.{clamp, u2s, s2u, shr}
 use Rattle.kernels.specs.Kernels.{gainOf, lossOf, part}
-use Rattle.kernels.specs.Windows.{atMost123, inByte, cut}
+use Rattle.kernels.specs.Private.Windows.{atMost123, inByte, cut}
 use Rattle.kernels.proofs.Ranges as R
 
 -- ---- the bound 0..255

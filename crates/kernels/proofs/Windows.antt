@@ -14,7 +14,7 @@ use Rattle.kernels.specs.Numbers.{u2s, s2u}
 use Rattle.kernels.specs.Kernels as K
 use Rattle.kernels.specs.Kernels.{segmentYes, segmentHev, adjustedP0, adjustedQ0, simpleYes, outerStep, part, wideValue}
 use Rattle.kernels.specs.Segment.{commonAdjust, simpleSegment, subblockFilter, mbFilter, half, taps, smooth, gather, scatter, segment}
-use Rattle.kernels.specs.Windows.{neighboursNear, adjustedAt, softenedFour, softened, widenedSix, widened}
+use Rattle.kernels.specs.Private.Windows.{neighboursNear, adjustedAt, softenedFour, softened, widenedSix, widened}
 use Rattle.kernels.proofs.Apart.{yes-in-turn, hev-low}
 
 -- the sample k places after base

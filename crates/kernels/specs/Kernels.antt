@@ -49,7 +49,7 @@ simpleYes edge P1 P0 Q0 Q1 = leb (edgeValue (pos P1) (pos P0) (pos Q0) (pos Q1))
 unfoldable pub simpleSegment : (edge P1 P0 Q0 Q1 : ℕ) → List ℕ
 simpleSegment edge P1 P0 Q0 Q1 = cond (simpleYes edge P1 P0 Q0 Q1) (commonAdjust true P1 P0 Q0 Q1) (P1 ∷ P0 ∷ Q0 ∷ Q1 ∷ [])
 
--- ---- filter_yes (lines 5103 to 5118) and hev (lines 5128 to 5134)
+-- ---- filter_yes (lines 5103 to 5117) and hev (lines 5127 to 5133)
 
 unfoldable pub filterYes : (interior edge : ℕ) (p3 p2 p1 p0 q0 q1 q2 q3 : ℤ) → Bool
 filterYes interior edge p3 p2 p1 p0 q0 q1 q2 q3 =

@@ -4,4 +4,5 @@ pub mod Numbers
 pub mod Limits
 pub mod Kernels
 pub mod Segment
-pub mod Windows
+-- what private functions promise each other: steps of the proof, which no public contract cites
+pub mod Private

@@ -4,11 +4,11 @@ use Prim.Native.Nat.{ℕ, _+_, _-_, _*_, _/_, min}
 use lib.Dec.{leb, ltb, eqb}
 use Rattle.kernels.specs.declared.limits.LoopFilterParams.{LoopFilterParams}
 
--- 0 becomes 1 (lines 5340 and 5341)
+-- 0 becomes 1 (lines 5337 and 5338)
 unfoldable pub atLeastOne : ℕ → ℕ
 atLeastOne n = cond (eqb n 0) 1 n
 
--- interior_limit (lines 5332 to 5341). `9 - sharpness` is 0 from 9 on; a shift right by k divides by 2 ^ k.
+-- interior_limit (lines 5329 to 5338). `9 - sharpness` is 0 from 9 on; a shift right by k divides by 2 ^ k.
 unfoldable pub interiorLimit : (level sharpness : ℕ) → ℕ
 interiorLimit level sharpness =
     atLeastOne
@@ -16,14 +16,14 @@ interiorLimit level sharpness =
     level
     (min (cond (ltb 4 sharpness) (level / 4) (level / 2)) (9 - sharpness)))
 
--- hev_threshold (lines 5350 to 5367)
+-- hev_threshold (lines 5347 to 5364)
 unfoldable pub hevThreshold : (level : ℕ) (key : Bool) → ℕ
 hevThreshold level key =
     cond key
     (cond (leb 40 level) 2 (cond (leb 15 level) 1 0))
     (cond (leb 40 level) 3 (cond (leb 20 level) 2 (cond (leb 15 level) 1 0)))
 
--- mbedge_limit and sub_bedge_limit (lines 5301 to 5306), stopped at 255
+-- mbedge_limit and sub_bedge_limit (lines 5298 to 5303), stopped at 255
 unfoldable pub mbedgeLimit : (level interior : ℕ) → ℕ
 mbedgeLimit level interior = min ((level + 2) * 2 + interior) 255
 

@@ -4,7 +4,7 @@ use Prim.Native.Nat.{ℕ, _^_}
 use lib.IntN.{ℤ, pos, negsuc, _+ℤ_, _-ℤ_, natAbs}
 use lib.Signed.{ltZ, shrZ}
 
--- c (lines 4862 to 4865): limits to -128..127. `negsuc 127` is -128.
+-- c (lines 4861 to 4864): limits to -128..127. `negsuc 127` is -128.
 unfoldable pub clamp : ℤ → ℤ
 clamp v = cond (ltZ v (negsuc 127)) (negsuc 127) (cond (ltZ v (pos 128)) v (pos 127))
 

@@ -16,7 +16,7 @@ ghost use lib.Dec.{leb};
 ghost use lib.ListN.{length, getD};
 ghost use Rattle.kernels.specs.Answers.{adjustOutcome, kernelOutcome};
 ghost use Rattle.kernels.specs.Kernels.{adjustment, simpleYes};
-ghost use Rattle.kernels.specs.Windows.{adjustedAt, softenedFour, softened, widenedSix, widened};
+ghost use Rattle.kernels.specs.Private.Windows.{adjustedAt, softenedFour, softened, widenedSix, widened};
 ghost use Rattle.kernels.specs.Segment.{commonAdjust, simpleSegment, subblockFilter, mbFilter, segment, windowed, windowAnswer, adjustAnswer};
 
 // A window of `taps` samples fits at base of a slice of n samples. No sum of the two can wrap.

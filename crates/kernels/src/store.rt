@@ -2,7 +2,7 @@
 ghost use mathlib.Core.Path.{_≡_};
 ghost use Prim.Native.Nat.{_+_, _≤_};
 ghost use lib.ListN.{length, set};
-ghost use Rattle.kernels.specs.Windows as win;
+ghost use Rattle.kernels.specs.Private.Windows as win;
 
 fn in_byte(v: i64) -> bool
     ensures { λ r. ⌜ r ≡ win.inByte v ⌝ }

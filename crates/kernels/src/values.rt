@@ -4,7 +4,7 @@ ghost use lib.Dec.{leb};
 ghost use lib.IntN.{pos, _-ℤ_};
 ghost use Rattle.kernels.specs.Numbers as num;
 ghost use Rattle.kernels.specs.Kernels as spec;
-ghost use Rattle.kernels.specs.Windows as win;
+ghost use Rattle.kernels.specs.Private.Windows as win;
 
 // |a - b|.
 fn apart(a: u8, b: u8) -> u8

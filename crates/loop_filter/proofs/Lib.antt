@@ -1,2 +1,3 @@
--- What several proofs share.
+-- What the proofs of the C functions share.
 pub mod Numbers16
+pub mod Returns

@@ -1,4 +1,3 @@
--- What the contracts of the C entries add to the definitions of the crates below.
-pub mod Out
-pub mod SearchOut
+-- What the contracts of the C functions add to the definitions of the crates below: settings as numbers, and out-parameters.
 pub mod Settings
+pub mod Returned

@@ -3,7 +3,7 @@ use mathlib.Core.Bool.{Bool}
 use mathlib.Core.List.{[], _∷_}
 use Prim.Native.Nat.{ℕ}
 use lib.IntN.{ℤ}
-use Rattle.frame.specs.declared.layout.PlaneLayout.{PlaneLayout}
+use Rattle.planes.specs.declared.layout.PlaneLayout.{PlaneLayout}
 use Rattle.levels.specs.declared.config.FrameFilterConfig.{FrameFilterConfig}
 
 abbrev pub settingsOf :

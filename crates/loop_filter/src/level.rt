@@ -1,11 +1,11 @@
-// C entries: the level of a macroblock, and the coefficient test. Settings cross as numbers.
+// C functions: the level of a macroblock, and the coefficient test. Settings cross as numbers.
 use crate::settings::settings;
 use levels::level::LevelAnswer;
 ghost use mathlib.Core.Path.{_≡_};
 ghost use Rattle.kernels.specs.Answers.{numberOf};
 ghost use Rattle.levels.specs.Levels.{keyAnswer, interAnswer};
 ghost use Rattle.levels.specs.Coefficients.{hasCoeffs};
-ghost use Rattle.loop_filter.specs.Out.{outOf};
+ghost use Rattle.loop_filter.specs.Returned.{Returned};
 ghost use Rattle.loop_filter.specs.Settings.{settingsOf};
 
 // The level goes through `level`, which a refusal leaves alone.
@@ -34,8 +34,13 @@ pub extern "C" fn vp8lf_calculate_mb_filter_level(
     mode: u8,
     level: &mut u8,
 ) -> u8
-    ensures { λ r. ⌜ r ≡ numberOf (keyAnswer (settingsOf simple «key_frame» «loop_filter_level» «sharpness_level» «segmentation_enabled» «segment_abs» «segment_level_0» «segment_level_1» «segment_level_2» «segment_level_3» «delta_enabled» «ref_delta_current» «bpred_mode_delta» «ref_delta_last» «ref_delta_golden» «ref_delta_altref» «zero_mv_mode_delta» «other_mv_mode_delta» «split_mv_mode_delta») segment mode) ⌝ }
-    ensures { λ _. ⌜ now (level .exit) ≡ outOf (keyAnswer (settingsOf simple «key_frame» «loop_filter_level» «sharpness_level» «segmentation_enabled» «segment_abs» «segment_level_0» «segment_level_1» «segment_level_2» «segment_level_3» «delta_enabled» «ref_delta_current» «bpred_mode_delta» «ref_delta_last» «ref_delta_golden» «ref_delta_altref» «zero_mv_mode_delta» «other_mv_mode_delta» «split_mv_mode_delta») segment mode) (now (level .entry)) ⌝ }
+    ensures { λ r. ⌜ Returned
+        (keyAnswer
+        (settingsOf simple «key_frame» «loop_filter_level» «sharpness_level» «segmentation_enabled» «segment_abs»
+        «segment_level_0» «segment_level_1» «segment_level_2» «segment_level_3» «delta_enabled» «ref_delta_current» «bpred_mode_delta»
+        «ref_delta_last» «ref_delta_golden» «ref_delta_altref» «zero_mv_mode_delta» «other_mv_mode_delta» «split_mv_mode_delta»)
+        segment mode)
+        r (now (level .entry)) (now (level .exit)) ⌝ }
 {
     let config = settings(
         simple,
@@ -95,8 +100,13 @@ pub extern "C" fn vp8lf_calculate_mb_filter_level_inter(
     mode: u8,
     level: &mut u8,
 ) -> u8
-    ensures { λ r. ⌜ r ≡ numberOf (interAnswer (settingsOf simple «key_frame» «loop_filter_level» «sharpness_level» «segmentation_enabled» «segment_abs» «segment_level_0» «segment_level_1» «segment_level_2» «segment_level_3» «delta_enabled» «ref_delta_current» «bpred_mode_delta» «ref_delta_last» «ref_delta_golden» «ref_delta_altref» «zero_mv_mode_delta» «other_mv_mode_delta» «split_mv_mode_delta») segment reference «inter_mode» mode) ⌝ }
-    ensures { λ _. ⌜ now (level .exit) ≡ outOf (interAnswer (settingsOf simple «key_frame» «loop_filter_level» «sharpness_level» «segmentation_enabled» «segment_abs» «segment_level_0» «segment_level_1» «segment_level_2» «segment_level_3» «delta_enabled» «ref_delta_current» «bpred_mode_delta» «ref_delta_last» «ref_delta_golden» «ref_delta_altref» «zero_mv_mode_delta» «other_mv_mode_delta» «split_mv_mode_delta») segment reference «inter_mode» mode) (now (level .entry)) ⌝ }
+    ensures { λ r. ⌜ Returned
+        (interAnswer
+        (settingsOf simple «key_frame» «loop_filter_level» «sharpness_level» «segmentation_enabled» «segment_abs»
+        «segment_level_0» «segment_level_1» «segment_level_2» «segment_level_3» «delta_enabled» «ref_delta_current» «bpred_mode_delta»
+        «ref_delta_last» «ref_delta_golden» «ref_delta_altref» «zero_mv_mode_delta» «other_mv_mode_delta» «split_mv_mode_delta»)
+        segment reference «inter_mode» mode)
+        r (now (level .entry)) (now (level .exit)) ⌝ }
 {
     let config = settings(
         simple,

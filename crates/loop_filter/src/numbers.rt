@@ -1,4 +1,4 @@
-// C entries: numbers and limits.
+// C functions: numbers and limits.
 use kernels::limits::LoopFilterParams;
 ghost use mathlib.Core.Path.{_≡_};
 ghost use Rattle.kernels.specs.Numbers as num;

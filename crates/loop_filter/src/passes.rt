@@ -1,23 +1,20 @@
-// C entries: the passes over a frame. Settings cross as numbers.
+// C functions: the passes over a frame. Settings cross as numbers.
 use crate::settings::settings;
-use frame::answers::PassAnswer;
-use frame::final_rows::FinalRowsAnswer;
-use frame::layout::PlaneLayout;
-ghost use mathlib.Core.Path.{_≡_};
-ghost use Rattle.kernels.specs.Answers.{numberOf};
-ghost use Rattle.frame.specs.Answers.{passOutcome};
-ghost use Rattle.frame.specs.FinalRows.{finalRows};
-ghost use Rattle.frame.specs.Layout.{gridOf, planesOf};
-ghost use Rattle.frame.specs.Pass.{keyPass, interPass, answer, planesAfter};
-ghost use Rattle.frame.specs.PassCalls.{keyCall, interCall, keyLists, interLists};
-ghost use Rattle.loop_filter.specs.Out.{countOut, nextOut, lumaOut, chromaOut};
+use calls::answers::PassAnswer;
+use calls::answers::pass_refusal_number;
+use calls::final_rows::FinalRowsAnswer;
+use planes::layout::PlaneLayout;
+ghost use Rattle.planes.specs.Layout.{gridOf, planesOf};
+ghost use Rattle.calls.specs.Answers.{passOutcome};
+ghost use Rattle.calls.specs.FinalRows.{finalRows};
+ghost use Rattle.calls.specs.Pass.{keyPass, interPass};
+ghost use Rattle.calls.specs.PassCalls.{keyCall, interCall, keyLists, interLists};
+ghost use Rattle.loop_filter.specs.Returned.{ProgressReturned, PassReturned, RowsReturned};
 ghost use Rattle.loop_filter.specs.Settings.{settingsOf, layoutOf};
 
-// 0 with the count and the next start, or the number of the refusal.
-fn tell(answer: PassAnswer, count: &mut usize, next: &mut usize) -> u8
-    ensures { λ r. ⌜ r ≡ numberOf (passOutcome answer) ⌝ }
-    ensures { λ _. ⌜ now (count .exit) ≡ countOut (passOutcome answer) (now (count .entry)) ⌝ }
-    ensures { λ _. ⌜ now (next .exit) ≡ nextOut (passOutcome answer) (now (next .entry)) ⌝ }
+// Returns 0 and puts the count and the next start, or returns the number of the refusal.
+fn put_progress(answer: PassAnswer, count: &mut usize, next: &mut usize) -> u8
+    ensures { λ r. ⌜ ProgressReturned (passOutcome answer) r (now (count .entry)) (now (next .entry)) (now (count .exit)) (now (next .exit)) ⌝ }
 {
     match answer {
         PassAnswer::Done { count: c, next: n } => {
@@ -25,12 +22,7 @@ fn tell(answer: PassAnswer, count: &mut usize, next: &mut usize) -> u8
             *next = n;
             0
         }
-        PassAnswer::TooLarge => 1,
-        PassAnswer::BadStrides => 2,
-        PassAnswer::ShortPlane => 3,
-        PassAnswer::WrongLength => 5,
-        PassAnswer::BadEntry => 6,
-        PassAnswer::StartBeyond => 7,
+        PassAnswer::Refused(refusal) => pass_refusal_number(refusal),
     }
 }
 
@@ -71,10 +63,15 @@ pub extern "C" fn vp8lf_filter_frame(
     count: &mut usize,
     next: &mut usize,
 ) -> u8
-    ensures { λ r. ⌜ r ≡ numberOf (answer keyPass (keyCall (planesOf (now (y .entry)) (now (u .entry)) (now (v .entry))) (layoutOf «mb_cols» «mb_rows» «y_stride» «uv_stride») (keyLists (now (modes .entry)) (now (segments .entry)) (now (flags .entry))) (settingsOf simple «key_frame» «loop_filter_level» «sharpness_level» «segmentation_enabled» «segment_abs» «segment_level_0» «segment_level_1» «segment_level_2» «segment_level_3» «delta_enabled» «ref_delta_current» «bpred_mode_delta» «ref_delta_last» «ref_delta_golden» «ref_delta_altref» «zero_mv_mode_delta» «other_mv_mode_delta» «split_mv_mode_delta») start allowance)) ⌝ }
-    ensures { λ _. ⌜ planesOf (now (y .exit)) (now (u .exit)) (now (v .exit)) ≡ planesAfter keyPass (keyCall (planesOf (now (y .entry)) (now (u .entry)) (now (v .entry))) (layoutOf «mb_cols» «mb_rows» «y_stride» «uv_stride») (keyLists (now (modes .entry)) (now (segments .entry)) (now (flags .entry))) (settingsOf simple «key_frame» «loop_filter_level» «sharpness_level» «segmentation_enabled» «segment_abs» «segment_level_0» «segment_level_1» «segment_level_2» «segment_level_3» «delta_enabled» «ref_delta_current» «bpred_mode_delta» «ref_delta_last» «ref_delta_golden» «ref_delta_altref» «zero_mv_mode_delta» «other_mv_mode_delta» «split_mv_mode_delta») start allowance) ⌝ }
-    ensures { λ _. ⌜ now (count .exit) ≡ countOut (answer keyPass (keyCall (planesOf (now (y .entry)) (now (u .entry)) (now (v .entry))) (layoutOf «mb_cols» «mb_rows» «y_stride» «uv_stride») (keyLists (now (modes .entry)) (now (segments .entry)) (now (flags .entry))) (settingsOf simple «key_frame» «loop_filter_level» «sharpness_level» «segmentation_enabled» «segment_abs» «segment_level_0» «segment_level_1» «segment_level_2» «segment_level_3» «delta_enabled» «ref_delta_current» «bpred_mode_delta» «ref_delta_last» «ref_delta_golden» «ref_delta_altref» «zero_mv_mode_delta» «other_mv_mode_delta» «split_mv_mode_delta») start allowance)) (now (count .entry)) ⌝ }
-    ensures { λ _. ⌜ now (next .exit) ≡ nextOut (answer keyPass (keyCall (planesOf (now (y .entry)) (now (u .entry)) (now (v .entry))) (layoutOf «mb_cols» «mb_rows» «y_stride» «uv_stride») (keyLists (now (modes .entry)) (now (segments .entry)) (now (flags .entry))) (settingsOf simple «key_frame» «loop_filter_level» «sharpness_level» «segmentation_enabled» «segment_abs» «segment_level_0» «segment_level_1» «segment_level_2» «segment_level_3» «delta_enabled» «ref_delta_current» «bpred_mode_delta» «ref_delta_last» «ref_delta_golden» «ref_delta_altref» «zero_mv_mode_delta» «other_mv_mode_delta» «split_mv_mode_delta») start allowance)) (now (next .entry)) ⌝ }
+    ensures { λ r. ⌜ PassReturned keyPass
+        (keyCall (planesOf (now (y .entry)) (now (u .entry)) (now (v .entry))) (layoutOf «mb_cols» «mb_rows» «y_stride» «uv_stride»)
+        (keyLists (now (modes .entry)) (now (segments .entry)) (now (flags .entry)))
+        (settingsOf simple «key_frame» «loop_filter_level» «sharpness_level» «segmentation_enabled» «segment_abs»
+        «segment_level_0» «segment_level_1» «segment_level_2» «segment_level_3» «delta_enabled» «ref_delta_current» «bpred_mode_delta»
+        «ref_delta_last» «ref_delta_golden» «ref_delta_altref» «zero_mv_mode_delta» «other_mv_mode_delta» «split_mv_mode_delta»)
+        start allowance)
+        r (planesOf (now (y .exit)) (now (u .exit)) (now (v .exit)))
+        (now (count .entry)) (now (next .entry)) (now (count .exit)) (now (next .exit)) ⌝ }
 {
     let config = settings(
         simple,
@@ -115,7 +112,7 @@ pub extern "C" fn vp8lf_filter_frame(
         start,
         allowance,
     );
-    tell(answer, count, next)
+    put_progress(answer, count, next)
 }
 
 // Count and next start go through `count` and `next`, which a refusal leaves alone.
@@ -157,10 +154,15 @@ pub extern "C" fn vp8lf_filter_inter_frame(
     count: &mut usize,
     next: &mut usize,
 ) -> u8
-    ensures { λ r. ⌜ r ≡ numberOf (answer interPass (interCall (planesOf (now (y .entry)) (now (u .entry)) (now (v .entry))) (layoutOf «mb_cols» «mb_rows» «y_stride» «uv_stride») (interLists (now (modes .entry)) (now (segments .entry)) (now (flags .entry)) (now (references .entry)) (now («inter_modes» .entry))) (settingsOf simple «key_frame» «loop_filter_level» «sharpness_level» «segmentation_enabled» «segment_abs» «segment_level_0» «segment_level_1» «segment_level_2» «segment_level_3» «delta_enabled» «ref_delta_current» «bpred_mode_delta» «ref_delta_last» «ref_delta_golden» «ref_delta_altref» «zero_mv_mode_delta» «other_mv_mode_delta» «split_mv_mode_delta») start allowance)) ⌝ }
-    ensures { λ _. ⌜ planesOf (now (y .exit)) (now (u .exit)) (now (v .exit)) ≡ planesAfter interPass (interCall (planesOf (now (y .entry)) (now (u .entry)) (now (v .entry))) (layoutOf «mb_cols» «mb_rows» «y_stride» «uv_stride») (interLists (now (modes .entry)) (now (segments .entry)) (now (flags .entry)) (now (references .entry)) (now («inter_modes» .entry))) (settingsOf simple «key_frame» «loop_filter_level» «sharpness_level» «segmentation_enabled» «segment_abs» «segment_level_0» «segment_level_1» «segment_level_2» «segment_level_3» «delta_enabled» «ref_delta_current» «bpred_mode_delta» «ref_delta_last» «ref_delta_golden» «ref_delta_altref» «zero_mv_mode_delta» «other_mv_mode_delta» «split_mv_mode_delta») start allowance) ⌝ }
-    ensures { λ _. ⌜ now (count .exit) ≡ countOut (answer interPass (interCall (planesOf (now (y .entry)) (now (u .entry)) (now (v .entry))) (layoutOf «mb_cols» «mb_rows» «y_stride» «uv_stride») (interLists (now (modes .entry)) (now (segments .entry)) (now (flags .entry)) (now (references .entry)) (now («inter_modes» .entry))) (settingsOf simple «key_frame» «loop_filter_level» «sharpness_level» «segmentation_enabled» «segment_abs» «segment_level_0» «segment_level_1» «segment_level_2» «segment_level_3» «delta_enabled» «ref_delta_current» «bpred_mode_delta» «ref_delta_last» «ref_delta_golden» «ref_delta_altref» «zero_mv_mode_delta» «other_mv_mode_delta» «split_mv_mode_delta») start allowance)) (now (count .entry)) ⌝ }
-    ensures { λ _. ⌜ now (next .exit) ≡ nextOut (answer interPass (interCall (planesOf (now (y .entry)) (now (u .entry)) (now (v .entry))) (layoutOf «mb_cols» «mb_rows» «y_stride» «uv_stride») (interLists (now (modes .entry)) (now (segments .entry)) (now (flags .entry)) (now (references .entry)) (now («inter_modes» .entry))) (settingsOf simple «key_frame» «loop_filter_level» «sharpness_level» «segmentation_enabled» «segment_abs» «segment_level_0» «segment_level_1» «segment_level_2» «segment_level_3» «delta_enabled» «ref_delta_current» «bpred_mode_delta» «ref_delta_last» «ref_delta_golden» «ref_delta_altref» «zero_mv_mode_delta» «other_mv_mode_delta» «split_mv_mode_delta») start allowance)) (now (next .entry)) ⌝ }
+    ensures { λ r. ⌜ PassReturned interPass
+        (interCall (planesOf (now (y .entry)) (now (u .entry)) (now (v .entry))) (layoutOf «mb_cols» «mb_rows» «y_stride» «uv_stride»)
+        (interLists (now (modes .entry)) (now (segments .entry)) (now (flags .entry)) (now (references .entry)) (now («inter_modes» .entry)))
+        (settingsOf simple «key_frame» «loop_filter_level» «sharpness_level» «segmentation_enabled» «segment_abs»
+        «segment_level_0» «segment_level_1» «segment_level_2» «segment_level_3» «delta_enabled» «ref_delta_current» «bpred_mode_delta»
+        «ref_delta_last» «ref_delta_golden» «ref_delta_altref» «zero_mv_mode_delta» «other_mv_mode_delta» «split_mv_mode_delta»)
+        start allowance)
+        r (planesOf (now (y .exit)) (now (u .exit)) (now (v .exit)))
+        (now (count .entry)) (now (next .entry)) (now (count .exit)) (now (next .exit)) ⌝ }
 {
     let config = settings(
         simple,
@@ -203,7 +205,7 @@ pub extern "C" fn vp8lf_filter_inter_frame(
         start,
         allowance,
     );
-    tell(answer, count, next)
+    put_progress(answer, count, next)
 }
 
 // The rows go through `luma` and `chroma`, which a refusal leaves alone.
@@ -217,9 +219,8 @@ pub extern "C" fn vp8lf_final_rows(
     luma: &mut usize,
     chroma: &mut usize,
 ) -> u8
-    ensures { λ r. ⌜ r ≡ numberOf (finalRows (gridOf (layoutOf «mb_cols» «mb_rows» «y_stride» «uv_stride»)) start) ⌝ }
-    ensures { λ _. ⌜ now (luma .exit) ≡ lumaOut (finalRows (gridOf (layoutOf «mb_cols» «mb_rows» «y_stride» «uv_stride»)) start) (now (luma .entry)) ⌝ }
-    ensures { λ _. ⌜ now (chroma .exit) ≡ chromaOut (finalRows (gridOf (layoutOf «mb_cols» «mb_rows» «y_stride» «uv_stride»)) start) (now (chroma .entry)) ⌝ }
+    ensures { λ r. ⌜ RowsReturned (finalRows (gridOf (layoutOf «mb_cols» «mb_rows» «y_stride» «uv_stride»)) start)
+        r (now (luma .entry)) (now (chroma .entry)) (now (luma .exit)) (now (chroma .exit)) ⌝ }
 {
     let layout = PlaneLayout {
         mb_cols: mb_cols,
@@ -227,7 +228,7 @@ pub extern "C" fn vp8lf_final_rows(
         y_stride: y_stride,
         uv_stride: uv_stride,
     };
-    match frame::final_rows::final_rows(layout, start) {
+    match calls::final_rows::final_rows(layout, start) {
         FinalRowsAnswer::FinalRows {
             luma: y,
             chroma: uv,
@@ -236,7 +237,6 @@ pub extern "C" fn vp8lf_final_rows(
             *chroma = uv;
             0
         }
-        FinalRowsAnswer::TooLarge => 1,
-        FinalRowsAnswer::StartBeyond => 7,
+        FinalRowsAnswer::Refused(refusal) => pass_refusal_number(refusal),
     }
 }

@@ -1,10 +1,10 @@
-// C entries: the kernels. Each returns 0 or document 01's number of the refusal; a refusal writes nothing.
+// C functions: the kernels. Each returns 0 or document 01's number of the refusal; a refusal writes nothing.
 use kernels::answers::AdjustAnswer;
 use kernels::answers::KernelAnswer;
 ghost use mathlib.Core.Path.{_≡_};
 ghost use Rattle.kernels.specs.Answers.{numberOf, kernelOutcome};
 ghost use Rattle.kernels.specs.Segment.{commonAdjust, simpleSegment, subblockFilter, mbFilter, windowed, windowAnswer, adjustAnswer};
-ghost use Rattle.loop_filter.specs.Out.{outOf};
+ghost use Rattle.loop_filter.specs.Returned.{Returned};
 
 // 0 for done, or the number of the refusal.
 fn number(answer: KernelAnswer) -> u8
@@ -24,9 +24,8 @@ pub extern "C" fn vp8lf_common_adjust(
     base: usize,
     adjustment: &mut i32,
 ) -> u8
-    ensures { λ r. ⌜ r ≡ numberOf (adjustAnswer «use_outer_taps» (now (seg .entry)) base) ⌝ }
+    ensures { λ r. ⌜ Returned (adjustAnswer «use_outer_taps» (now (seg .entry)) base) r (now (adjustment .entry)) (now (adjustment .exit)) ⌝ }
     ensures { λ _. ⌜ now (seg .exit) ≡ windowed (commonAdjust «use_outer_taps») (now (seg .entry)) base ⌝ }
-    ensures { λ _. ⌜ now (adjustment .exit) ≡ outOf (adjustAnswer «use_outer_taps» (now (seg .entry)) base) (now (adjustment .entry)) ⌝ }
 {
     match kernels::segments::common_adjust(use_outer_taps, seg, base) {
         AdjustAnswer::AdjustedBy(a) => {
@@ -56,7 +55,7 @@ pub extern "C" fn vp8lf_subblock_filter(
     ensures { λ r. ⌜ r ≡ numberOf (windowAnswer (subblockFilter «hev_threshold» «interior_limit» «edge_limit») (now (seg .entry)) base) ⌝ }
     ensures { λ _. ⌜ now (seg .exit) ≡ windowed (subblockFilter «hev_threshold» «interior_limit» «edge_limit») (now (seg .entry)) base ⌝ }
 {
-    number(frame::windows::subblock_filter_window(
+    number(edges::windows::subblock_filter_window(
         hev_threshold,
         interior_limit,
         edge_limit,
@@ -76,5 +75,5 @@ pub extern "C" fn vp8lf_mb_filter(
     ensures { λ r. ⌜ r ≡ numberOf (windowAnswer (mbFilter «hev_threshold» «interior_limit» «edge_limit») (now (seg .entry)) base) ⌝ }
     ensures { λ _. ⌜ now (seg .exit) ≡ windowed (mbFilter «hev_threshold» «interior_limit» «edge_limit») (now (seg .entry)) base ⌝ }
 {
-    number(frame::windows::mb_filter_window(hev_threshold, interior_limit, edge_limit, seg, base))
+    number(edges::windows::mb_filter_window(hev_threshold, interior_limit, edge_limit, seg, base))
 }

@@ -1,20 +1,18 @@
-// C entries: the error sums and the level search. Settings cross as numbers.
+// C functions: the error sums and the level search. Settings cross as numbers.
 use crate::settings::settings;
-use frame::layout::PlaneLayout;
-use search::answers::LevelAnswer;
+use planes::layout::PlaneLayout;
+use search::answers::LevelOnlyAnswer;
 use search::answers::ParamsAnswer;
-use search::answers::SumAnswer;
-ghost use mathlib.Core.Path.{_≡_};
-ghost use Rattle.kernels.specs.Answers.{numberOf};
-ghost use Rattle.frame.specs.Layout.{gridOf, planesOf};
-ghost use Rattle.frame.specs.Pass.{keyPass, interPass};
-ghost use Rattle.frame.specs.PassCalls.{keyLists, interLists};
-ghost use Rattle.search.specs.Answers.{paramsOutcome, levelOutcome};
-ghost use Rattle.search.specs.Search.{searchAnswer, levelOnly, scratchAfter, keySearch, interSearch};
-ghost use Rattle.search.specs.Source.{sourceOf};
-ghost use Rattle.search.specs.Sums.{sumAnswer};
-ghost use Rattle.loop_filter.specs.Out.{outOf};
-ghost use Rattle.loop_filter.specs.SearchOut.{levelOut, sharpnessOut, scoredOut, onlyLevelOut, onlyCountOut};
+use sums::answers::SumAnswer;
+use sums::answers::search_refusal_number;
+ghost use Rattle.planes.specs.Layout.{gridOf, planesOf};
+ghost use Rattle.calls.specs.Pass.{keyPass, interPass};
+ghost use Rattle.calls.specs.PassCalls.{keyLists, interLists};
+ghost use Rattle.sums.specs.Source.{sourceOf};
+ghost use Rattle.sums.specs.Sums.{sumAnswer};
+ghost use Rattle.search.specs.Answers.{paramsOutcome, levelOnlyOutcome};
+ghost use Rattle.search.specs.Search.{keySearch, interSearch};
+ghost use Rattle.loop_filter.specs.Returned.{Returned, ChoiceReturned, LevelReturned, SearchReturned, LevelSearchReturned};
 ghost use Rattle.loop_filter.specs.Settings.{settingsOf, layoutOf};
 
 // The sum goes through `sum`, which a refusal leaves alone.
@@ -36,8 +34,10 @@ pub extern "C" fn vp8lf_reconstruction_ssd<'s>(
     src_uv_stride: usize,
     sum: &mut u64,
 ) -> u8
-    ensures { λ r. ⌜ r ≡ numberOf (sumAnswer (gridOf (layoutOf «mb_cols» «mb_rows» «y_stride» «uv_stride»)) (planesOf (now (y .entry)) (now (u .entry)) (now (v .entry))) (sourceOf width height (now («src_y» .entry)) (now («src_u» .entry)) (now («src_v» .entry)) «src_y_stride» «src_uv_stride»)) ⌝ }
-    ensures { λ _. ⌜ now (sum .exit) ≡ outOf (sumAnswer (gridOf (layoutOf «mb_cols» «mb_rows» «y_stride» «uv_stride»)) (planesOf (now (y .entry)) (now (u .entry)) (now (v .entry))) (sourceOf width height (now («src_y» .entry)) (now («src_u» .entry)) (now («src_v» .entry)) «src_y_stride» «src_uv_stride»)) (now (sum .entry)) ⌝ }
+    ensures { λ r. ⌜ Returned
+        (sumAnswer (gridOf (layoutOf «mb_cols» «mb_rows» «y_stride» «uv_stride»)) (planesOf (now (y .entry)) (now (u .entry)) (now (v .entry)))
+        (sourceOf width height (now («src_y» .entry)) (now («src_u» .entry)) (now («src_v» .entry)) «src_y_stride» «src_uv_stride»))
+        r (now (sum .entry)) (now (sum .exit)) ⌝ }
 {
     let layout = PlaneLayout {
         mb_cols: mb_cols,
@@ -45,7 +45,7 @@ pub extern "C" fn vp8lf_reconstruction_ssd<'s>(
         y_stride: y_stride,
         uv_stride: uv_stride,
     };
-    match search::sums::reconstruction_ssd(
+    match sums::sums::reconstruction_ssd(
         y,
         u,
         v,
@@ -62,20 +62,14 @@ pub extern "C" fn vp8lf_reconstruction_ssd<'s>(
             *sum = n;
             0
         }
-        SumAnswer::TooLarge => 1,
-        SumAnswer::BadStrides => 2,
-        SumAnswer::ShortPlane => 3,
-        SumAnswer::SourceTooLarge => 8,
-        SumAnswer::BadSource => 9,
-        SumAnswer::SumTooLarge => 10,
+        SumAnswer::Refused(refusal) => search_refusal_number(refusal),
     }
 }
 
-fn tell_params(answer: ParamsAnswer, level: &mut u8, sharpness: &mut u8, count: &mut usize) -> u8
-    ensures { λ r. ⌜ r ≡ numberOf (paramsOutcome answer) ⌝ }
-    ensures { λ _. ⌜ now (level .exit) ≡ levelOut (paramsOutcome answer) (now (level .entry)) ⌝ }
-    ensures { λ _. ⌜ now (sharpness .exit) ≡ sharpnessOut (paramsOutcome answer) (now (sharpness .entry)) ⌝ }
-    ensures { λ _. ⌜ now (count .exit) ≡ scoredOut (paramsOutcome answer) (now (count .entry)) ⌝ }
+// Returns 0 and puts the chosen pair and the count, or returns the number of the refusal.
+fn put_choice(answer: ParamsAnswer, level: &mut u8, sharpness: &mut u8, count: &mut usize) -> u8
+    ensures { λ r. ⌜ ChoiceReturned (paramsOutcome answer)
+        r (now (level .entry)) (now (sharpness .entry)) (now (count .entry)) (now (level .exit)) (now (sharpness .exit)) (now (count .exit)) ⌝ }
 {
     match answer {
         ParamsAnswer::Chosen {
@@ -88,34 +82,22 @@ fn tell_params(answer: ParamsAnswer, level: &mut u8, sharpness: &mut u8, count: 
             *count = c;
             0
         }
-        ParamsAnswer::TooLarge => 1,
-        ParamsAnswer::BadStrides => 2,
-        ParamsAnswer::ShortPlane => 3,
-        ParamsAnswer::BadEntry => 6,
-        ParamsAnswer::SourceTooLarge => 8,
-        ParamsAnswer::BadSource => 9,
-        ParamsAnswer::SumTooLarge => 10,
+        ParamsAnswer::Refused(refusal) => search_refusal_number(refusal),
     }
 }
 
-fn tell_level(answer: LevelAnswer, level: &mut u8, count: &mut usize) -> u8
-    ensures { λ r. ⌜ r ≡ numberOf (levelOutcome answer) ⌝ }
-    ensures { λ _. ⌜ now (level .exit) ≡ onlyLevelOut (levelOutcome answer) (now (level .entry)) ⌝ }
-    ensures { λ _. ⌜ now (count .exit) ≡ onlyCountOut (levelOutcome answer) (now (count .entry)) ⌝ }
+// The same without the sharpness.
+fn put_level(answer: LevelOnlyAnswer, level: &mut u8, count: &mut usize) -> u8
+    ensures { λ r. ⌜ LevelReturned (levelOnlyOutcome answer)
+        r (now (level .entry)) (now (count .entry)) (now (level .exit)) (now (count .exit)) ⌝ }
 {
     match answer {
-        LevelAnswer::Chosen { level: l, count: c } => {
+        LevelOnlyAnswer::Chosen { level: l, count: c } => {
             *level = l;
             *count = c;
             0
         }
-        LevelAnswer::TooLarge => 1,
-        LevelAnswer::BadStrides => 2,
-        LevelAnswer::ShortPlane => 3,
-        LevelAnswer::BadEntry => 6,
-        LevelAnswer::SourceTooLarge => 8,
-        LevelAnswer::BadSource => 9,
-        LevelAnswer::SumTooLarge => 10,
+        LevelOnlyAnswer::Refused(refusal) => search_refusal_number(refusal),
     }
 }
 
@@ -165,11 +147,17 @@ pub extern "C" fn vp8lf_select_filter_params<'s>(
     sharpness: &mut u8,
     count: &mut usize,
 ) -> u8
-    ensures { λ r. ⌜ r ≡ numberOf (searchAnswer keyPass (keySearch (layoutOf «mb_cols» «mb_rows» «y_stride» «uv_stride») (settingsOf simple «key_frame» «loop_filter_level» «sharpness_level» «segmentation_enabled» «segment_abs» «segment_level_0» «segment_level_1» «segment_level_2» «segment_level_3» «delta_enabled» «ref_delta_current» «bpred_mode_delta» «ref_delta_last» «ref_delta_golden» «ref_delta_altref» «zero_mv_mode_delta» «other_mv_mode_delta» «split_mv_mode_delta») (keyLists (now (modes .entry)) (now (segments .entry)) (now (flags .entry))) (planesOf (now (y .entry)) (now (u .entry)) (now (v .entry))) (planesOf (now («scratch_y» .entry)) (now («scratch_u» .entry)) (now («scratch_v» .entry))) (sourceOf width height (now («src_y» .entry)) (now («src_u» .entry)) (now («src_v» .entry)) «src_y_stride» «src_uv_stride»))) ⌝ }
-    ensures { λ _. ⌜ planesOf (now («scratch_y» .exit)) (now («scratch_u» .exit)) (now («scratch_v» .exit)) ≡ scratchAfter keyPass (keySearch (layoutOf «mb_cols» «mb_rows» «y_stride» «uv_stride») (settingsOf simple «key_frame» «loop_filter_level» «sharpness_level» «segmentation_enabled» «segment_abs» «segment_level_0» «segment_level_1» «segment_level_2» «segment_level_3» «delta_enabled» «ref_delta_current» «bpred_mode_delta» «ref_delta_last» «ref_delta_golden» «ref_delta_altref» «zero_mv_mode_delta» «other_mv_mode_delta» «split_mv_mode_delta») (keyLists (now (modes .entry)) (now (segments .entry)) (now (flags .entry))) (planesOf (now (y .entry)) (now (u .entry)) (now (v .entry))) (planesOf (now («scratch_y» .entry)) (now («scratch_u» .entry)) (now («scratch_v» .entry))) (sourceOf width height (now («src_y» .entry)) (now («src_u» .entry)) (now («src_v» .entry)) «src_y_stride» «src_uv_stride»)) ⌝ }
-    ensures { λ _. ⌜ now (level .exit) ≡ levelOut (searchAnswer keyPass (keySearch (layoutOf «mb_cols» «mb_rows» «y_stride» «uv_stride») (settingsOf simple «key_frame» «loop_filter_level» «sharpness_level» «segmentation_enabled» «segment_abs» «segment_level_0» «segment_level_1» «segment_level_2» «segment_level_3» «delta_enabled» «ref_delta_current» «bpred_mode_delta» «ref_delta_last» «ref_delta_golden» «ref_delta_altref» «zero_mv_mode_delta» «other_mv_mode_delta» «split_mv_mode_delta») (keyLists (now (modes .entry)) (now (segments .entry)) (now (flags .entry))) (planesOf (now (y .entry)) (now (u .entry)) (now (v .entry))) (planesOf (now («scratch_y» .entry)) (now («scratch_u» .entry)) (now («scratch_v» .entry))) (sourceOf width height (now («src_y» .entry)) (now («src_u» .entry)) (now («src_v» .entry)) «src_y_stride» «src_uv_stride»))) (now (level .entry)) ⌝ }
-    ensures { λ _. ⌜ now (sharpness .exit) ≡ sharpnessOut (searchAnswer keyPass (keySearch (layoutOf «mb_cols» «mb_rows» «y_stride» «uv_stride») (settingsOf simple «key_frame» «loop_filter_level» «sharpness_level» «segmentation_enabled» «segment_abs» «segment_level_0» «segment_level_1» «segment_level_2» «segment_level_3» «delta_enabled» «ref_delta_current» «bpred_mode_delta» «ref_delta_last» «ref_delta_golden» «ref_delta_altref» «zero_mv_mode_delta» «other_mv_mode_delta» «split_mv_mode_delta») (keyLists (now (modes .entry)) (now (segments .entry)) (now (flags .entry))) (planesOf (now (y .entry)) (now (u .entry)) (now (v .entry))) (planesOf (now («scratch_y» .entry)) (now («scratch_u» .entry)) (now («scratch_v» .entry))) (sourceOf width height (now («src_y» .entry)) (now («src_u» .entry)) (now («src_v» .entry)) «src_y_stride» «src_uv_stride»))) (now (sharpness .entry)) ⌝ }
-    ensures { λ _. ⌜ now (count .exit) ≡ scoredOut (searchAnswer keyPass (keySearch (layoutOf «mb_cols» «mb_rows» «y_stride» «uv_stride») (settingsOf simple «key_frame» «loop_filter_level» «sharpness_level» «segmentation_enabled» «segment_abs» «segment_level_0» «segment_level_1» «segment_level_2» «segment_level_3» «delta_enabled» «ref_delta_current» «bpred_mode_delta» «ref_delta_last» «ref_delta_golden» «ref_delta_altref» «zero_mv_mode_delta» «other_mv_mode_delta» «split_mv_mode_delta») (keyLists (now (modes .entry)) (now (segments .entry)) (now (flags .entry))) (planesOf (now (y .entry)) (now (u .entry)) (now (v .entry))) (planesOf (now («scratch_y» .entry)) (now («scratch_u» .entry)) (now («scratch_v» .entry))) (sourceOf width height (now («src_y» .entry)) (now («src_u» .entry)) (now («src_v» .entry)) «src_y_stride» «src_uv_stride»))) (now (count .entry)) ⌝ }
+    ensures { λ r. ⌜ SearchReturned keyPass
+        (keySearch (layoutOf «mb_cols» «mb_rows» «y_stride» «uv_stride»)
+        (settingsOf simple «key_frame» «loop_filter_level» «sharpness_level» «segmentation_enabled» «segment_abs»
+        «segment_level_0» «segment_level_1» «segment_level_2» «segment_level_3» «delta_enabled» «ref_delta_current» «bpred_mode_delta»
+        «ref_delta_last» «ref_delta_golden» «ref_delta_altref» «zero_mv_mode_delta» «other_mv_mode_delta» «split_mv_mode_delta»)
+        (keyLists (now (modes .entry)) (now (segments .entry)) (now (flags .entry)))
+        (planesOf (now (y .entry)) (now (u .entry)) (now (v .entry)))
+        (planesOf (now («scratch_y» .entry)) (now («scratch_u» .entry)) (now («scratch_v» .entry)))
+        (sourceOf width height (now («src_y» .entry)) (now («src_u» .entry)) (now («src_v» .entry)) «src_y_stride» «src_uv_stride»))
+        r (planesOf (now («scratch_y» .exit)) (now («scratch_u» .exit)) (now («scratch_v» .exit)))
+        (now (level .entry)) (now (sharpness .entry)) (now (count .entry)) (now (level .exit)) (now (sharpness .exit)) (now (count .exit)) ⌝ }
 {
     let config = settings(
         simple,
@@ -218,7 +206,7 @@ pub extern "C" fn vp8lf_select_filter_params<'s>(
         src_y_stride,
         src_uv_stride,
     );
-    tell_params(answer, level, sharpness, count)
+    put_choice(answer, level, sharpness, count)
 }
 
 // What is chosen goes through the last parameters, which a refusal leaves alone.
@@ -269,11 +257,17 @@ pub extern "C" fn vp8lf_select_filter_params_inter<'s>(
     sharpness: &mut u8,
     count: &mut usize,
 ) -> u8
-    ensures { λ r. ⌜ r ≡ numberOf (searchAnswer interPass (interSearch (layoutOf «mb_cols» «mb_rows» «y_stride» «uv_stride») (settingsOf simple «key_frame» «loop_filter_level» «sharpness_level» «segmentation_enabled» «segment_abs» «segment_level_0» «segment_level_1» «segment_level_2» «segment_level_3» «delta_enabled» «ref_delta_current» «bpred_mode_delta» «ref_delta_last» «ref_delta_golden» «ref_delta_altref» «zero_mv_mode_delta» «other_mv_mode_delta» «split_mv_mode_delta») (interLists (now (modes .entry)) (now (segments .entry)) (now (flags .entry)) (now (references .entry)) (now («inter_modes» .entry))) (planesOf (now (y .entry)) (now (u .entry)) (now (v .entry))) (planesOf (now («scratch_y» .entry)) (now («scratch_u» .entry)) (now («scratch_v» .entry))) (sourceOf width height (now («src_y» .entry)) (now («src_u» .entry)) (now («src_v» .entry)) «src_y_stride» «src_uv_stride»))) ⌝ }
-    ensures { λ _. ⌜ planesOf (now («scratch_y» .exit)) (now («scratch_u» .exit)) (now («scratch_v» .exit)) ≡ scratchAfter interPass (interSearch (layoutOf «mb_cols» «mb_rows» «y_stride» «uv_stride») (settingsOf simple «key_frame» «loop_filter_level» «sharpness_level» «segmentation_enabled» «segment_abs» «segment_level_0» «segment_level_1» «segment_level_2» «segment_level_3» «delta_enabled» «ref_delta_current» «bpred_mode_delta» «ref_delta_last» «ref_delta_golden» «ref_delta_altref» «zero_mv_mode_delta» «other_mv_mode_delta» «split_mv_mode_delta») (interLists (now (modes .entry)) (now (segments .entry)) (now (flags .entry)) (now (references .entry)) (now («inter_modes» .entry))) (planesOf (now (y .entry)) (now (u .entry)) (now (v .entry))) (planesOf (now («scratch_y» .entry)) (now («scratch_u» .entry)) (now («scratch_v» .entry))) (sourceOf width height (now («src_y» .entry)) (now («src_u» .entry)) (now («src_v» .entry)) «src_y_stride» «src_uv_stride»)) ⌝ }
-    ensures { λ _. ⌜ now (level .exit) ≡ levelOut (searchAnswer interPass (interSearch (layoutOf «mb_cols» «mb_rows» «y_stride» «uv_stride») (settingsOf simple «key_frame» «loop_filter_level» «sharpness_level» «segmentation_enabled» «segment_abs» «segment_level_0» «segment_level_1» «segment_level_2» «segment_level_3» «delta_enabled» «ref_delta_current» «bpred_mode_delta» «ref_delta_last» «ref_delta_golden» «ref_delta_altref» «zero_mv_mode_delta» «other_mv_mode_delta» «split_mv_mode_delta») (interLists (now (modes .entry)) (now (segments .entry)) (now (flags .entry)) (now (references .entry)) (now («inter_modes» .entry))) (planesOf (now (y .entry)) (now (u .entry)) (now (v .entry))) (planesOf (now («scratch_y» .entry)) (now («scratch_u» .entry)) (now («scratch_v» .entry))) (sourceOf width height (now («src_y» .entry)) (now («src_u» .entry)) (now («src_v» .entry)) «src_y_stride» «src_uv_stride»))) (now (level .entry)) ⌝ }
-    ensures { λ _. ⌜ now (sharpness .exit) ≡ sharpnessOut (searchAnswer interPass (interSearch (layoutOf «mb_cols» «mb_rows» «y_stride» «uv_stride») (settingsOf simple «key_frame» «loop_filter_level» «sharpness_level» «segmentation_enabled» «segment_abs» «segment_level_0» «segment_level_1» «segment_level_2» «segment_level_3» «delta_enabled» «ref_delta_current» «bpred_mode_delta» «ref_delta_last» «ref_delta_golden» «ref_delta_altref» «zero_mv_mode_delta» «other_mv_mode_delta» «split_mv_mode_delta») (interLists (now (modes .entry)) (now (segments .entry)) (now (flags .entry)) (now (references .entry)) (now («inter_modes» .entry))) (planesOf (now (y .entry)) (now (u .entry)) (now (v .entry))) (planesOf (now («scratch_y» .entry)) (now («scratch_u» .entry)) (now («scratch_v» .entry))) (sourceOf width height (now («src_y» .entry)) (now («src_u» .entry)) (now («src_v» .entry)) «src_y_stride» «src_uv_stride»))) (now (sharpness .entry)) ⌝ }
-    ensures { λ _. ⌜ now (count .exit) ≡ scoredOut (searchAnswer interPass (interSearch (layoutOf «mb_cols» «mb_rows» «y_stride» «uv_stride») (settingsOf simple «key_frame» «loop_filter_level» «sharpness_level» «segmentation_enabled» «segment_abs» «segment_level_0» «segment_level_1» «segment_level_2» «segment_level_3» «delta_enabled» «ref_delta_current» «bpred_mode_delta» «ref_delta_last» «ref_delta_golden» «ref_delta_altref» «zero_mv_mode_delta» «other_mv_mode_delta» «split_mv_mode_delta») (interLists (now (modes .entry)) (now (segments .entry)) (now (flags .entry)) (now (references .entry)) (now («inter_modes» .entry))) (planesOf (now (y .entry)) (now (u .entry)) (now (v .entry))) (planesOf (now («scratch_y» .entry)) (now («scratch_u» .entry)) (now («scratch_v» .entry))) (sourceOf width height (now («src_y» .entry)) (now («src_u» .entry)) (now («src_v» .entry)) «src_y_stride» «src_uv_stride»))) (now (count .entry)) ⌝ }
+    ensures { λ r. ⌜ SearchReturned interPass
+        (interSearch (layoutOf «mb_cols» «mb_rows» «y_stride» «uv_stride»)
+        (settingsOf simple «key_frame» «loop_filter_level» «sharpness_level» «segmentation_enabled» «segment_abs»
+        «segment_level_0» «segment_level_1» «segment_level_2» «segment_level_3» «delta_enabled» «ref_delta_current» «bpred_mode_delta»
+        «ref_delta_last» «ref_delta_golden» «ref_delta_altref» «zero_mv_mode_delta» «other_mv_mode_delta» «split_mv_mode_delta»)
+        (interLists (now (modes .entry)) (now (segments .entry)) (now (flags .entry)) (now (references .entry)) (now («inter_modes» .entry)))
+        (planesOf (now (y .entry)) (now (u .entry)) (now (v .entry)))
+        (planesOf (now («scratch_y» .entry)) (now («scratch_u» .entry)) (now («scratch_v» .entry)))
+        (sourceOf width height (now («src_y» .entry)) (now («src_u» .entry)) (now («src_v» .entry)) «src_y_stride» «src_uv_stride»))
+        r (planesOf (now («scratch_y» .exit)) (now («scratch_u» .exit)) (now («scratch_v» .exit)))
+        (now (level .entry)) (now (sharpness .entry)) (now (count .entry)) (now (level .exit)) (now (sharpness .exit)) (now (count .exit)) ⌝ }
 {
     let config = settings(
         simple,
@@ -324,7 +318,7 @@ pub extern "C" fn vp8lf_select_filter_params_inter<'s>(
         src_y_stride,
         src_uv_stride,
     );
-    tell_params(answer, level, sharpness, count)
+    put_choice(answer, level, sharpness, count)
 }
 
 // What is chosen goes through the last parameters, which a refusal leaves alone.
@@ -372,10 +366,17 @@ pub extern "C" fn vp8lf_select_filter_level<'s>(
     level: &mut u8,
     count: &mut usize,
 ) -> u8
-    ensures { λ r. ⌜ r ≡ numberOf (levelOnly (searchAnswer keyPass (keySearch (layoutOf «mb_cols» «mb_rows» «y_stride» «uv_stride») (settingsOf simple «key_frame» «loop_filter_level» «sharpness_level» «segmentation_enabled» «segment_abs» «segment_level_0» «segment_level_1» «segment_level_2» «segment_level_3» «delta_enabled» «ref_delta_current» «bpred_mode_delta» «ref_delta_last» «ref_delta_golden» «ref_delta_altref» «zero_mv_mode_delta» «other_mv_mode_delta» «split_mv_mode_delta») (keyLists (now (modes .entry)) (now (segments .entry)) (now (flags .entry))) (planesOf (now (y .entry)) (now (u .entry)) (now (v .entry))) (planesOf (now («scratch_y» .entry)) (now («scratch_u» .entry)) (now («scratch_v» .entry))) (sourceOf width height (now («src_y» .entry)) (now («src_u» .entry)) (now («src_v» .entry)) «src_y_stride» «src_uv_stride»)))) ⌝ }
-    ensures { λ _. ⌜ planesOf (now («scratch_y» .exit)) (now («scratch_u» .exit)) (now («scratch_v» .exit)) ≡ scratchAfter keyPass (keySearch (layoutOf «mb_cols» «mb_rows» «y_stride» «uv_stride») (settingsOf simple «key_frame» «loop_filter_level» «sharpness_level» «segmentation_enabled» «segment_abs» «segment_level_0» «segment_level_1» «segment_level_2» «segment_level_3» «delta_enabled» «ref_delta_current» «bpred_mode_delta» «ref_delta_last» «ref_delta_golden» «ref_delta_altref» «zero_mv_mode_delta» «other_mv_mode_delta» «split_mv_mode_delta») (keyLists (now (modes .entry)) (now (segments .entry)) (now (flags .entry))) (planesOf (now (y .entry)) (now (u .entry)) (now (v .entry))) (planesOf (now («scratch_y» .entry)) (now («scratch_u» .entry)) (now («scratch_v» .entry))) (sourceOf width height (now («src_y» .entry)) (now («src_u» .entry)) (now («src_v» .entry)) «src_y_stride» «src_uv_stride»)) ⌝ }
-    ensures { λ _. ⌜ now (level .exit) ≡ onlyLevelOut (levelOnly (searchAnswer keyPass (keySearch (layoutOf «mb_cols» «mb_rows» «y_stride» «uv_stride») (settingsOf simple «key_frame» «loop_filter_level» «sharpness_level» «segmentation_enabled» «segment_abs» «segment_level_0» «segment_level_1» «segment_level_2» «segment_level_3» «delta_enabled» «ref_delta_current» «bpred_mode_delta» «ref_delta_last» «ref_delta_golden» «ref_delta_altref» «zero_mv_mode_delta» «other_mv_mode_delta» «split_mv_mode_delta») (keyLists (now (modes .entry)) (now (segments .entry)) (now (flags .entry))) (planesOf (now (y .entry)) (now (u .entry)) (now (v .entry))) (planesOf (now («scratch_y» .entry)) (now («scratch_u» .entry)) (now («scratch_v» .entry))) (sourceOf width height (now («src_y» .entry)) (now («src_u» .entry)) (now («src_v» .entry)) «src_y_stride» «src_uv_stride»)))) (now (level .entry)) ⌝ }
-    ensures { λ _. ⌜ now (count .exit) ≡ onlyCountOut (levelOnly (searchAnswer keyPass (keySearch (layoutOf «mb_cols» «mb_rows» «y_stride» «uv_stride») (settingsOf simple «key_frame» «loop_filter_level» «sharpness_level» «segmentation_enabled» «segment_abs» «segment_level_0» «segment_level_1» «segment_level_2» «segment_level_3» «delta_enabled» «ref_delta_current» «bpred_mode_delta» «ref_delta_last» «ref_delta_golden» «ref_delta_altref» «zero_mv_mode_delta» «other_mv_mode_delta» «split_mv_mode_delta») (keyLists (now (modes .entry)) (now (segments .entry)) (now (flags .entry))) (planesOf (now (y .entry)) (now (u .entry)) (now (v .entry))) (planesOf (now («scratch_y» .entry)) (now («scratch_u» .entry)) (now («scratch_v» .entry))) (sourceOf width height (now («src_y» .entry)) (now («src_u» .entry)) (now («src_v» .entry)) «src_y_stride» «src_uv_stride»)))) (now (count .entry)) ⌝ }
+    ensures { λ r. ⌜ LevelSearchReturned keyPass
+        (keySearch (layoutOf «mb_cols» «mb_rows» «y_stride» «uv_stride»)
+        (settingsOf simple «key_frame» «loop_filter_level» «sharpness_level» «segmentation_enabled» «segment_abs»
+        «segment_level_0» «segment_level_1» «segment_level_2» «segment_level_3» «delta_enabled» «ref_delta_current» «bpred_mode_delta»
+        «ref_delta_last» «ref_delta_golden» «ref_delta_altref» «zero_mv_mode_delta» «other_mv_mode_delta» «split_mv_mode_delta»)
+        (keyLists (now (modes .entry)) (now (segments .entry)) (now (flags .entry)))
+        (planesOf (now (y .entry)) (now (u .entry)) (now (v .entry)))
+        (planesOf (now («scratch_y» .entry)) (now («scratch_u» .entry)) (now («scratch_v» .entry)))
+        (sourceOf width height (now («src_y» .entry)) (now («src_u» .entry)) (now («src_v» .entry)) «src_y_stride» «src_uv_stride»))
+        r (planesOf (now («scratch_y» .exit)) (now («scratch_u» .exit)) (now («scratch_v» .exit)))
+        (now (level .entry)) (now (count .entry)) (now (level .exit)) (now (count .exit)) ⌝ }
 {
     let config = settings(
         simple,
@@ -424,7 +425,7 @@ pub extern "C" fn vp8lf_select_filter_level<'s>(
         src_y_stride,
         src_uv_stride,
     );
-    tell_level(answer, level, count)
+    put_level(answer, level, count)
 }
 
 // What is chosen goes through the last parameters, which a refusal leaves alone.
@@ -474,10 +475,17 @@ pub extern "C" fn vp8lf_select_filter_level_inter<'s>(
     level: &mut u8,
     count: &mut usize,
 ) -> u8
-    ensures { λ r. ⌜ r ≡ numberOf (levelOnly (searchAnswer interPass (interSearch (layoutOf «mb_cols» «mb_rows» «y_stride» «uv_stride») (settingsOf simple «key_frame» «loop_filter_level» «sharpness_level» «segmentation_enabled» «segment_abs» «segment_level_0» «segment_level_1» «segment_level_2» «segment_level_3» «delta_enabled» «ref_delta_current» «bpred_mode_delta» «ref_delta_last» «ref_delta_golden» «ref_delta_altref» «zero_mv_mode_delta» «other_mv_mode_delta» «split_mv_mode_delta») (interLists (now (modes .entry)) (now (segments .entry)) (now (flags .entry)) (now (references .entry)) (now («inter_modes» .entry))) (planesOf (now (y .entry)) (now (u .entry)) (now (v .entry))) (planesOf (now («scratch_y» .entry)) (now («scratch_u» .entry)) (now («scratch_v» .entry))) (sourceOf width height (now («src_y» .entry)) (now («src_u» .entry)) (now («src_v» .entry)) «src_y_stride» «src_uv_stride»)))) ⌝ }
-    ensures { λ _. ⌜ planesOf (now («scratch_y» .exit)) (now («scratch_u» .exit)) (now («scratch_v» .exit)) ≡ scratchAfter interPass (interSearch (layoutOf «mb_cols» «mb_rows» «y_stride» «uv_stride») (settingsOf simple «key_frame» «loop_filter_level» «sharpness_level» «segmentation_enabled» «segment_abs» «segment_level_0» «segment_level_1» «segment_level_2» «segment_level_3» «delta_enabled» «ref_delta_current» «bpred_mode_delta» «ref_delta_last» «ref_delta_golden» «ref_delta_altref» «zero_mv_mode_delta» «other_mv_mode_delta» «split_mv_mode_delta») (interLists (now (modes .entry)) (now (segments .entry)) (now (flags .entry)) (now (references .entry)) (now («inter_modes» .entry))) (planesOf (now (y .entry)) (now (u .entry)) (now (v .entry))) (planesOf (now («scratch_y» .entry)) (now («scratch_u» .entry)) (now («scratch_v» .entry))) (sourceOf width height (now («src_y» .entry)) (now («src_u» .entry)) (now («src_v» .entry)) «src_y_stride» «src_uv_stride»)) ⌝ }
-    ensures { λ _. ⌜ now (level .exit) ≡ onlyLevelOut (levelOnly (searchAnswer interPass (interSearch (layoutOf «mb_cols» «mb_rows» «y_stride» «uv_stride») (settingsOf simple «key_frame» «loop_filter_level» «sharpness_level» «segmentation_enabled» «segment_abs» «segment_level_0» «segment_level_1» «segment_level_2» «segment_level_3» «delta_enabled» «ref_delta_current» «bpred_mode_delta» «ref_delta_last» «ref_delta_golden» «ref_delta_altref» «zero_mv_mode_delta» «other_mv_mode_delta» «split_mv_mode_delta») (interLists (now (modes .entry)) (now (segments .entry)) (now (flags .entry)) (now (references .entry)) (now («inter_modes» .entry))) (planesOf (now (y .entry)) (now (u .entry)) (now (v .entry))) (planesOf (now («scratch_y» .entry)) (now («scratch_u» .entry)) (now («scratch_v» .entry))) (sourceOf width height (now («src_y» .entry)) (now («src_u» .entry)) (now («src_v» .entry)) «src_y_stride» «src_uv_stride»)))) (now (level .entry)) ⌝ }
-    ensures { λ _. ⌜ now (count .exit) ≡ onlyCountOut (levelOnly (searchAnswer interPass (interSearch (layoutOf «mb_cols» «mb_rows» «y_stride» «uv_stride») (settingsOf simple «key_frame» «loop_filter_level» «sharpness_level» «segmentation_enabled» «segment_abs» «segment_level_0» «segment_level_1» «segment_level_2» «segment_level_3» «delta_enabled» «ref_delta_current» «bpred_mode_delta» «ref_delta_last» «ref_delta_golden» «ref_delta_altref» «zero_mv_mode_delta» «other_mv_mode_delta» «split_mv_mode_delta») (interLists (now (modes .entry)) (now (segments .entry)) (now (flags .entry)) (now (references .entry)) (now («inter_modes» .entry))) (planesOf (now (y .entry)) (now (u .entry)) (now (v .entry))) (planesOf (now («scratch_y» .entry)) (now («scratch_u» .entry)) (now («scratch_v» .entry))) (sourceOf width height (now («src_y» .entry)) (now («src_u» .entry)) (now («src_v» .entry)) «src_y_stride» «src_uv_stride»)))) (now (count .entry)) ⌝ }
+    ensures { λ r. ⌜ LevelSearchReturned interPass
+        (interSearch (layoutOf «mb_cols» «mb_rows» «y_stride» «uv_stride»)
+        (settingsOf simple «key_frame» «loop_filter_level» «sharpness_level» «segmentation_enabled» «segment_abs»
+        «segment_level_0» «segment_level_1» «segment_level_2» «segment_level_3» «delta_enabled» «ref_delta_current» «bpred_mode_delta»
+        «ref_delta_last» «ref_delta_golden» «ref_delta_altref» «zero_mv_mode_delta» «other_mv_mode_delta» «split_mv_mode_delta»)
+        (interLists (now (modes .entry)) (now (segments .entry)) (now (flags .entry)) (now (references .entry)) (now («inter_modes» .entry)))
+        (planesOf (now (y .entry)) (now (u .entry)) (now (v .entry)))
+        (planesOf (now («scratch_y» .entry)) (now («scratch_u» .entry)) (now («scratch_v» .entry)))
+        (sourceOf width height (now («src_y» .entry)) (now («src_u» .entry)) (now («src_v» .entry)) «src_y_stride» «src_uv_stride»))
+        r (planesOf (now («scratch_y» .exit)) (now («scratch_u» .exit)) (now («scratch_v» .exit)))
+        (now (level .entry)) (now (count .entry)) (now (level .exit)) (now (count .exit)) ⌝ }
 {
     let config = settings(
         simple,
@@ -528,5 +536,5 @@ pub extern "C" fn vp8lf_select_filter_level_inter<'s>(
         src_y_stride,
         src_uv_stride,
     );
-    tell_level(answer, level, count)
+    put_level(answer, level, count)
 }

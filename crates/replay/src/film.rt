@@ -5,7 +5,7 @@ use crate::input::read_place;
 use crate::input::read_recorded;
 use crate::input::read_settings;
 use crate::passes::answered;
-use frame::answers::PassAnswer;
+use calls::answers::PassAnswer;
 use frame::pass::filter_frame;
 use frame::pass::filter_inter_frame;
 use levels::config::FrameFilterConfig;

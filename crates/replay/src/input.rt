@@ -1,6 +1,6 @@
 // The blocks of a recorded call and the numbers in them.
-use frame::layout::PlaneLayout;
 use levels::config::FrameFilterConfig;
+use planes::layout::PlaneLayout;
 
 // Whether the whole block was read.
 pub fn fill(block: &mut [u8]) -> bool {

@@ -42,17 +42,17 @@ use crate::small::replay_s2u;
 use crate::small::replay_simple;
 use crate::small::replay_subblock;
 use crate::small::replay_u2s;
-use frame::answers::PassAnswer;
-use frame::layout::PlaneLayout;
+use calls::answers::PassAnswer;
+use calls::records::MacroblockModes;
 use frame::record_pass::filter_frame_records;
 use frame::record_pass::filter_inter_frame_records;
-use frame::records::MacroblockModes;
 use levels::config::FrameFilterConfig;
 use libc::STDOUT_FILENO;
-ghost use Rattle.frame.specs.Answers.{Passed};
-ghost use Rattle.frame.specs.Layout.{planesOf};
-ghost use Rattle.frame.specs.Pass.{keyPass, interPass};
-ghost use Rattle.frame.specs.PassCalls.{keyRecordsCall, interRecordsCall};
+use planes::layout::PlaneLayout;
+ghost use Rattle.calls.specs.Answers.{Passed};
+ghost use Rattle.planes.specs.Layout.{planesOf};
+ghost use Rattle.calls.specs.Pass.{keyPass, interPass};
+ghost use Rattle.calls.specs.PassCalls.{keyRecordsCall, interRecordsCall};
 
 // The passes over records take a lent slice of them. A caller that lends one is proved by hand, so there are two such callers only.
 pub fn key_four(
@@ -65,7 +65,9 @@ pub fn key_four(
     start: usize,
     allowance: usize,
 ) -> PassAnswer
-    ensures { λ r. ⌜ Passed keyPass (keyRecordsCall (planesOf (now (y .entry)) (now (u .entry)) (now (v .entry))) layout list config start allowance) r (planesOf (now (y .exit)) (now (u .exit)) (now (v .exit))) ⌝ }
+    ensures { λ r. ⌜ Passed keyPass
+        (keyRecordsCall (planesOf (now (y .entry)) (now (u .entry)) (now (v .entry))) layout list config start allowance)
+        r (planesOf (now (y .exit)) (now (u .exit)) (now (v .exit))) ⌝ }
 {
     filter_frame_records(y, u, v, layout, &list, config, start, allowance)
 }
@@ -80,7 +82,9 @@ pub fn inter_four(
     start: usize,
     allowance: usize,
 ) -> PassAnswer
-    ensures { λ r. ⌜ Passed interPass (interRecordsCall (planesOf (now (y .entry)) (now (u .entry)) (now (v .entry))) layout list config start allowance) r (planesOf (now (y .exit)) (now (u .exit)) (now (v .exit))) ⌝ }
+    ensures { λ r. ⌜ Passed interPass
+        (interRecordsCall (planesOf (now (y .entry)) (now (u .entry)) (now (v .entry))) layout list config start allowance)
+        r (planesOf (now (y .exit)) (now (u .exit)) (now (v .exit))) ⌝ }
 {
     filter_inter_frame_records(y, u, v, layout, &list, config, start, allowance)
 }

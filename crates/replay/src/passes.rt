@@ -11,7 +11,8 @@ use crate::picture::read_lists;
 use crate::picture::read_picture;
 use crate::picture::same_picture;
 use crate::picture::stripes;
-use frame::answers::PassAnswer;
+use calls::answers::PassAnswer;
+use calls::answers::pass_refusal_number;
 use frame::pass::filter_frame;
 use frame::pass::filter_inter_frame;
 use levels::config::FrameFilterConfig;
@@ -27,12 +28,7 @@ pub fn answered(answer: PassAnswer, r: Recorded) -> bool {
         PassAnswer::Done { count, next } => {
             (r.refusal == 0) & (count == r.first) & (next == r.second)
         }
-        PassAnswer::TooLarge => r.refusal == 1,
-        PassAnswer::BadStrides => r.refusal == 2,
-        PassAnswer::ShortPlane => r.refusal == 3,
-        PassAnswer::WrongLength => r.refusal == 5,
-        PassAnswer::BadEntry => r.refusal == 6,
-        PassAnswer::StartBeyond => r.refusal == 7,
+        PassAnswer::Refused(refusal) => r.refusal == pass_refusal_number(refusal),
     }
 }
 

@@ -1,7 +1,7 @@
 // Macroblock records, six bytes each: mode, whether there is a segment, segment, flag, reference, inter mode.
 use crate::input::fill;
-use frame::records::MacroblockModes;
-use frame::records::MaybeSegment;
+use calls::records::MacroblockModes;
+use calls::records::MaybeSegment;
 use levels::modes::InterMode;
 use levels::modes::IntraYMode;
 use levels::modes::MaybeInter;

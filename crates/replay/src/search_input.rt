@@ -4,11 +4,12 @@ use crate::input::read_place;
 use crate::input::read_settings;
 use crate::input::size;
 use crate::picture::stripe;
-use frame::layout::PlaneLayout;
 use levels::config::FrameFilterConfig;
-use search::answers::LevelAnswer;
+use planes::layout::PlaneLayout;
+use search::answers::LevelOnlyAnswer;
 use search::answers::ParamsAnswer;
-use search::answers::SumAnswer;
+use sums::answers::SumAnswer;
+use sums::answers::search_refusal_number;
 
 // Scratch planes. y and u are shorter than those of a picture, so that they alone can be too short.
 pub struct Scratch {
@@ -131,33 +132,21 @@ pub fn params_choice(answer: ParamsAnswer) -> Choice {
             count: count,
             whole: true,
         },
-        ParamsAnswer::TooLarge => refused(1),
-        ParamsAnswer::BadStrides => refused(2),
-        ParamsAnswer::ShortPlane => refused(3),
-        ParamsAnswer::BadEntry => refused(6),
-        ParamsAnswer::SourceTooLarge => refused(8),
-        ParamsAnswer::BadSource => refused(9),
-        ParamsAnswer::SumTooLarge => refused(10),
+        ParamsAnswer::Refused(r) => refused(search_refusal_number(r)),
     }
 }
 
 // `sharpness` stands in for the one that is not answered.
-pub fn level_choice(answer: LevelAnswer, sharpness: u8) -> Choice {
+pub fn level_choice(answer: LevelOnlyAnswer, sharpness: u8) -> Choice {
     match answer {
-        LevelAnswer::Chosen { level, count } => Choice {
+        LevelOnlyAnswer::Chosen { level, count } => Choice {
             refusal: 0,
             level: level,
             sharpness: sharpness,
             count: count,
             whole: true,
         },
-        LevelAnswer::TooLarge => refused(1),
-        LevelAnswer::BadStrides => refused(2),
-        LevelAnswer::ShortPlane => refused(3),
-        LevelAnswer::BadEntry => refused(6),
-        LevelAnswer::SourceTooLarge => refused(8),
-        LevelAnswer::BadSource => refused(9),
-        LevelAnswer::SumTooLarge => refused(10),
+        LevelOnlyAnswer::Refused(r) => refused(search_refusal_number(r)),
     }
 }
 
@@ -173,11 +162,6 @@ pub fn same_choice(a: Choice, b: Choice) -> bool {
 pub fn same_sum(answer: SumAnswer, refusal: u8, sum: u64) -> bool {
     match answer {
         SumAnswer::Sum(s) => (refusal == 0) & (s == sum),
-        SumAnswer::TooLarge => refusal == 1,
-        SumAnswer::BadStrides => refusal == 2,
-        SumAnswer::ShortPlane => refusal == 3,
-        SumAnswer::SourceTooLarge => refusal == 8,
-        SumAnswer::BadSource => refusal == 9,
-        SumAnswer::SumTooLarge => refusal == 10,
+        SumAnswer::Refused(r) => refusal == search_refusal_number(r),
     }
 }

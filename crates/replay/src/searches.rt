@@ -19,15 +19,15 @@ use crate::search_input::same_choice;
 use crate::search_input::same_scratch;
 use crate::search_input::same_sum;
 use crate::search_input::striped_scratch;
-use search::answers::LevelAnswer;
+use search::answers::LevelOnlyAnswer;
 use search::answers::ParamsAnswer;
-use search::answers::SumAnswer;
 use search::search::select_filter_level;
 use search::search::select_filter_level_inter;
 use search::search::select_filter_params;
 use search::search::select_filter_params_inter;
-use search::source::reconstruction_ssd_from;
-use search::sums::reconstruction_ssd;
+use source::borrowed::reconstruction_ssd_from;
+use sums::answers::SumAnswer;
+use sums::sums::reconstruction_ssd;
 
 // The functions under test by arrays, whose lengths need no proof.
 fn sum<'s>(
@@ -82,9 +82,9 @@ fn key_params<'s>(
     y: &[u8; 1280],
     u: &[u8; 352],
     v: &[u8; 348],
-    ty: &mut [u8; 1264],
-    tu: &mut [u8; 344],
-    tv: &mut [u8; 352],
+    scratch_y: &mut [u8; 1264],
+    scratch_u: &mut [u8; 344],
+    scratch_v: &mut [u8; 352],
     sy: &'s [u8; 1280],
     su: &'s [u8; 352],
     sv: &'s [u8; 348],
@@ -97,9 +97,9 @@ fn key_params<'s>(
         y,
         u,
         v,
-        ty,
-        tu,
-        tv,
+        scratch_y,
+        scratch_u,
+        scratch_v,
         t.layout,
         modes,
         segments,
@@ -119,9 +119,9 @@ fn key_level<'s>(
     y: &[u8; 1280],
     u: &[u8; 352],
     v: &[u8; 348],
-    ty: &mut [u8; 1264],
-    tu: &mut [u8; 344],
-    tv: &mut [u8; 352],
+    scratch_y: &mut [u8; 1264],
+    scratch_u: &mut [u8; 344],
+    scratch_v: &mut [u8; 352],
     sy: &'s [u8; 1280],
     su: &'s [u8; 352],
     sv: &'s [u8; 348],
@@ -129,14 +129,14 @@ fn key_level<'s>(
     modes: &[u8; 4],
     segments: &[u8; 4],
     flags: &[u8; 4],
-) -> LevelAnswer {
+) -> LevelOnlyAnswer {
     select_filter_level(
         y,
         u,
         v,
-        ty,
-        tu,
-        tv,
+        scratch_y,
+        scratch_u,
+        scratch_v,
         t.layout,
         modes,
         segments,
@@ -156,9 +156,9 @@ fn inter_params<'s>(
     y: &[u8; 1280],
     u: &[u8; 352],
     v: &[u8; 348],
-    ty: &mut [u8; 1264],
-    tu: &mut [u8; 344],
-    tv: &mut [u8; 352],
+    scratch_y: &mut [u8; 1264],
+    scratch_u: &mut [u8; 344],
+    scratch_v: &mut [u8; 352],
     sy: &'s [u8; 1280],
     su: &'s [u8; 352],
     sv: &'s [u8; 348],
@@ -173,9 +173,9 @@ fn inter_params<'s>(
         y,
         u,
         v,
-        ty,
-        tu,
-        tv,
+        scratch_y,
+        scratch_u,
+        scratch_v,
         t.layout,
         modes,
         segments,
@@ -197,9 +197,9 @@ fn inter_level<'s>(
     y: &[u8; 1280],
     u: &[u8; 352],
     v: &[u8; 348],
-    ty: &mut [u8; 1264],
-    tu: &mut [u8; 344],
-    tv: &mut [u8; 352],
+    scratch_y: &mut [u8; 1264],
+    scratch_u: &mut [u8; 344],
+    scratch_v: &mut [u8; 352],
     sy: &'s [u8; 1280],
     su: &'s [u8; 352],
     sv: &'s [u8; 348],
@@ -209,14 +209,14 @@ fn inter_level<'s>(
     flags: &[u8; 4],
     references: &[u8; 4],
     inter_modes: &[u8; 4],
-) -> LevelAnswer {
+) -> LevelOnlyAnswer {
     select_filter_level_inter(
         y,
         u,
         v,
-        ty,
-        tu,
-        tv,
+        scratch_y,
+        scratch_u,
+        scratch_v,
         t.layout,
         modes,
         segments,
@@ -278,9 +278,9 @@ fn find_key_params(rec: Picture, src: Picture, t: Task, l: Lists) -> Found {
     let su = src.u;
     let sv = src.v;
     let scratch = striped_scratch();
-    let mut ty = scratch.y;
-    let mut tu = scratch.u;
-    let mut tv = scratch.v;
+    let mut scratch_y = scratch.y;
+    let mut scratch_u = scratch.u;
+    let mut scratch_v = scratch.v;
     let modes = l.modes;
     let segments = l.segments;
     let flags = l.flags;
@@ -288,9 +288,9 @@ fn find_key_params(rec: Picture, src: Picture, t: Task, l: Lists) -> Found {
         &y,
         &u,
         &v,
-        &mut ty,
-        &mut tu,
-        &mut tv,
+        &mut scratch_y,
+        &mut scratch_u,
+        &mut scratch_v,
         &sy,
         &su,
         &sv,
@@ -299,7 +299,7 @@ fn find_key_params(rec: Picture, src: Picture, t: Task, l: Lists) -> Found {
         &segments,
         &flags,
     );
-    make_found(params_choice(answer), ty, tu, tv)
+    make_found(params_choice(answer), scratch_y, scratch_u, scratch_v)
 }
 
 fn find_key_level(rec: Picture, src: Picture, t: Task, l: Lists, sharpness: u8) -> Found {
@@ -310,9 +310,9 @@ fn find_key_level(rec: Picture, src: Picture, t: Task, l: Lists, sharpness: u8) 
     let su = src.u;
     let sv = src.v;
     let scratch = striped_scratch();
-    let mut ty = scratch.y;
-    let mut tu = scratch.u;
-    let mut tv = scratch.v;
+    let mut scratch_y = scratch.y;
+    let mut scratch_u = scratch.u;
+    let mut scratch_v = scratch.v;
     let modes = l.modes;
     let segments = l.segments;
     let flags = l.flags;
@@ -320,9 +320,9 @@ fn find_key_level(rec: Picture, src: Picture, t: Task, l: Lists, sharpness: u8) 
         &y,
         &u,
         &v,
-        &mut ty,
-        &mut tu,
-        &mut tv,
+        &mut scratch_y,
+        &mut scratch_u,
+        &mut scratch_v,
         &sy,
         &su,
         &sv,
@@ -331,7 +331,12 @@ fn find_key_level(rec: Picture, src: Picture, t: Task, l: Lists, sharpness: u8) 
         &segments,
         &flags,
     );
-    make_found(level_choice(answer, sharpness), ty, tu, tv)
+    make_found(
+        level_choice(answer, sharpness),
+        scratch_y,
+        scratch_u,
+        scratch_v,
+    )
 }
 
 fn find_inter_params(rec: Picture, src: Picture, t: Task, l: Lists) -> Found {
@@ -342,9 +347,9 @@ fn find_inter_params(rec: Picture, src: Picture, t: Task, l: Lists) -> Found {
     let su = src.u;
     let sv = src.v;
     let scratch = striped_scratch();
-    let mut ty = scratch.y;
-    let mut tu = scratch.u;
-    let mut tv = scratch.v;
+    let mut scratch_y = scratch.y;
+    let mut scratch_u = scratch.u;
+    let mut scratch_v = scratch.v;
     let modes = l.modes;
     let segments = l.segments;
     let flags = l.flags;
@@ -354,9 +359,9 @@ fn find_inter_params(rec: Picture, src: Picture, t: Task, l: Lists) -> Found {
         &y,
         &u,
         &v,
-        &mut ty,
-        &mut tu,
-        &mut tv,
+        &mut scratch_y,
+        &mut scratch_u,
+        &mut scratch_v,
         &sy,
         &su,
         &sv,
@@ -367,7 +372,7 @@ fn find_inter_params(rec: Picture, src: Picture, t: Task, l: Lists) -> Found {
         &references,
         &inter_modes,
     );
-    make_found(params_choice(answer), ty, tu, tv)
+    make_found(params_choice(answer), scratch_y, scratch_u, scratch_v)
 }
 
 fn find_inter_level(rec: Picture, src: Picture, t: Task, l: Lists, sharpness: u8) -> Found {
@@ -378,9 +383,9 @@ fn find_inter_level(rec: Picture, src: Picture, t: Task, l: Lists, sharpness: u8
     let su = src.u;
     let sv = src.v;
     let scratch = striped_scratch();
-    let mut ty = scratch.y;
-    let mut tu = scratch.u;
-    let mut tv = scratch.v;
+    let mut scratch_y = scratch.y;
+    let mut scratch_u = scratch.u;
+    let mut scratch_v = scratch.v;
     let modes = l.modes;
     let segments = l.segments;
     let flags = l.flags;
@@ -390,9 +395,9 @@ fn find_inter_level(rec: Picture, src: Picture, t: Task, l: Lists, sharpness: u8
         &y,
         &u,
         &v,
-        &mut ty,
-        &mut tu,
-        &mut tv,
+        &mut scratch_y,
+        &mut scratch_u,
+        &mut scratch_v,
         &sy,
         &su,
         &sv,
@@ -403,7 +408,12 @@ fn find_inter_level(rec: Picture, src: Picture, t: Task, l: Lists, sharpness: u8
         &references,
         &inter_modes,
     );
-    make_found(level_choice(answer, sharpness), ty, tu, tv)
+    make_found(
+        level_choice(answer, sharpness),
+        scratch_y,
+        scratch_u,
+        scratch_v,
+    )
 }
 
 fn is_found(found: Found, c: Choice, after: Scratch) -> bool {

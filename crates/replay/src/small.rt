@@ -7,8 +7,9 @@ use crate::input::signed8;
 use crate::input::signed16;
 use crate::input::signed32;
 use crate::input::size;
-use frame::final_rows::FinalRowsAnswer;
-use frame::final_rows::final_rows;
+use calls::answers::pass_refusal_number;
+use calls::final_rows::FinalRowsAnswer;
+use calls::final_rows::final_rows;
 use kernels::answers::AdjustAnswer;
 use kernels::answers::KernelAnswer;
 use kernels::limits::LoopFilterParams;
@@ -155,8 +156,7 @@ fn rows_are(answer: FinalRowsAnswer, refusal: u8, first: usize, second: usize) -
         FinalRowsAnswer::FinalRows { luma, chroma } => {
             (refusal == 0) & (luma == first) & (chroma == second)
         }
-        FinalRowsAnswer::TooLarge => refusal == 1,
-        FinalRowsAnswer::StartBeyond => refusal == 7,
+        FinalRowsAnswer::Refused(r) => refusal == pass_refusal_number(r),
     }
 }
 

@@ -8,8 +8,8 @@ use native.Mathlib.Omega.{arith}
 use lib.Dec.{T, eqb, ltb, leb, leb→le}
 use lib.ListN.{length}
 use borrow.Author.Tests.{ltb-true, ltb-false, leb-true, eqb-true, eqb-false, ne-eqb, lt-ltb, le-ltb}
-use Rattle.frame.specs.Pass.{Pass}
-use Rattle.frame.proofs.Facts.{All, none, _&_}
+use Rattle.calls.specs.Pass.{Pass}
+use Rattle.planes.proofs.AllOf.{All, none, _&_}
 use Rattle.search.specs.Candidates.{Candidate, Standing, fold, keep, upward, coarseLevels, near, aboveZero, consider, atBase, unfiltered, coarse, otherLevel, refined, otherSharpness, searched}
 use Rattle.search.specs.Search.{SearchCall, score, baseSharpness, search}
 

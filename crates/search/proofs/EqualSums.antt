@@ -8,13 +8,13 @@ use native.Mathlib.Omega.{arith}
 use lib.Dec.{eqb, ltb}
 use borrow.Author.Tests.{le-ltb, ne-eqb}
 use Rattle.levels.specs.declared.config.FrameFilterConfig.{FrameFilterConfig}
-use Rattle.frame.specs.Planes.{Planes, Grid, macroblocks}
-use Rattle.frame.specs.Refusals.{zeroGrid, tooLarge, badStrides, shortPlanes, afterGrid}
-use Rattle.frame.specs.Steps.{steps}
-use Rattle.frame.specs.Pass.{Pass, refusal, step, count, planesAfter}
-use Rattle.frame.proofs.Plans.{none}
+use Rattle.planes.specs.Planes.{Planes, Grid, macroblocks}
+use Rattle.planes.specs.GridRefusals.{zeroGrid, tooLarge, badStrides, shortPlanes, afterGrid}
+use Rattle.planes.specs.Steps.{steps}
+use Rattle.calls.specs.Pass.{Pass, refusal, step, count, planesAfter}
+use Rattle.planes.proofs.GridLaws.{none}
 use Rattle.search.specs.Candidates.{Candidate, Standing, fold, keep, upward, coarseLevels, near, aboveZero, consider, atBase, unfiltered, coarse, otherLevel, refined, otherSharpness, searched}
-use Rattle.search.specs.Sums.{errorSum}
+use Rattle.sums.specs.Sums.{errorSum}
 use Rattle.search.specs.Search.{SearchCall, Choice, settingsAt, passOver, candidatePlanes, planesOfCandidate, score, baseSharpness, search, choice}
 
 -- ---- equal sums
@@ -109,29 +109,29 @@ module _ (W : Pass) (g : Grid) (f : FrameFilterConfig) (carried : W .Carried) (p
   rest = cond (W .badEntry carried) 6 (cond (ltb (macroblocks g) 0) 7 0)
 
   abbrev accepted : Bool
-  accepted = eqb (cond (zeroGrid g) 0 (afterGrid g p (cond (W .otherLength carried (macroblocks g)) 5 rest))) 0
+  accepted = eqb (cond (zeroGrid g) 0 (afterGrid g p (cond (W .wrongLength carried (macroblocks g)) 5 rest))) 0
 
   no-steps : zeroGrid g ≡ true → steps F 0 (min (macroblocks g) (macroblocks g - 0)) p ≡ p
   unfolding steps
   no-steps q = ap (λ (n : ℕ). steps F 0 (min n (n - 0)) p) (none g q)
 
-  not-accepted : zeroGrid g ≡ false → W .otherLength carried (macroblocks g) ≡ true → accepted ≡ false
+  not-accepted : zeroGrid g ≡ false → W .wrongLength carried (macroblocks g) ≡ true → accepted ≡ false
   not-accepted q h =
-      ap (λ (z : Bool). eqb (cond z 0 (afterGrid g p (cond (W .otherLength carried (macroblocks g)) 5 rest))) 0) q
+      ap (λ (z : Bool). eqb (cond z 0 (afterGrid g p (cond (W .wrongLength carried (macroblocks g)) 5 rest))) 0) q
       ∙ ap (λ (o : Bool). eqb (afterGrid g p (cond o 5 rest)) 0) h
       ∙ never-zero g p
 
-  idle : (zeroGrid g || W .otherLength carried (macroblocks g)) ≡ true → passOver W g f carried p ≡ p
+  idle : (zeroGrid g || W .wrongLength carried (macroblocks g)) ≡ true → passOver W g f carried p ≡ p
   unfolding passOver planesAfter refusal count
   idle h = by (zeroGrid g) refl h
     where
-      by : (z : Bool) → zeroGrid g ≡ z → (z || W .otherLength carried (macroblocks g)) ≡ true → cond accepted (steps F 0 (min (macroblocks g) (macroblocks g - 0)) p) p ≡ p
+      by : (z : Bool) → zeroGrid g ≡ z → (z || W .wrongLength carried (macroblocks g)) ≡ true → cond accepted (steps F 0 (min (macroblocks g) (macroblocks g - 0)) p) p ≡ p
       by true q e = ap (λ (x : Planes). cond accepted x p) (no-steps q) ∙ same-either accepted p
       by false q e = ap (λ (b : Bool). cond b (steps F 0 (min (macroblocks g) (macroblocks g - 0)) p) p) (not-accepted q e)
 
 -- ---- a search with nothing to choose from
 
-module _ (W : Pass) (a : SearchCall W) (h : (zeroGrid (a .grid) || W .otherLength (a .carried) (macroblocks (a .grid))) ≡ true) where
+module _ (W : Pass) (a : SearchCall W) (h : (zeroGrid (a .grid) || W .wrongLength (a .carried) (macroblocks (a .grid))) ≡ true) where
   -- so scratch is left as the unfiltered copy
   pub planes-stay : (c : Candidate) → planesOfCandidate W a c ≡ a .reconstruction
   unfolding planesOfCandidate candidatePlanes

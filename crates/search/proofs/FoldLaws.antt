@@ -6,8 +6,8 @@ use Prim.Native.Nat.{ℕ, _≤_, _<_}
 use native.Mathlib.Omega.{arith}
 use lib.Dec.{eqb, ltb}
 use borrow.Author.Tests.{ltb-true, ltb-false}
-use Rattle.frame.specs.Pass.{Pass}
-use Rattle.frame.proofs.Facts.{All, none, _&_, all-map}
+use Rattle.calls.specs.Pass.{Pass}
+use Rattle.planes.proofs.AllOf.{All, none, _&_, all-map}
 use Rattle.search.specs.Candidates.{Candidate, Standing, fold, keep, upward, coarseLevels, near, consider, atBase, unfiltered, coarse, otherLevel, refined, otherSharpness, searched}
 use Rattle.search.specs.Search.{SearchCall, score, baseSharpness, search}
 

@@ -1,28 +1,31 @@
 -- Which refusal a search gives, from the answers that come before it.
 use mathlib.Core.Path.{_≡_, refl, sym, ap, subst, _∙_}
 use mathlib.Core.Bool.{Bool, true, false, cond, _||_}
-use Prim.Native.Nat.{ℕ, _<_, _-_, min}
+use Prim.Native.Nat.{ℕ, _<_}
 use native.Mathlib.Omega.{arith}
 use lib.Dec.{eqb}
 use borrow.Author.Tests.{ne-eqb, eqb-true, le-ltb}
 use Rattle.kernels.specs.Answers.{Outcome, gives, refuses, numberOf}
-use Rattle.frame.specs.Steps.{steps}
-use Rattle.frame.specs.Planes.{Planes, Grid, macroblocks}
-use Rattle.frame.specs.Refusals.{zeroGrid, tooLarge, badStrides, shortPlanes, afterGrid}
-use Rattle.frame.specs.Pass.{Pass, Call, Progress, refusal, answer, count, next, planesAfter}
-use Rattle.search.specs.Source.{Source, sourceTooLarge, badSource}
-use Rattle.search.specs.Sums.{errorSum, pastGrid, pastSource, sumTooLarge, sumRefusal, sumAnswer}
+use Rattle.planes.specs.Planes.{Planes, Grid, macroblocks}
+use Rattle.planes.specs.GridRefusals.{zeroGrid, tooLarge, badStrides, shortPlanes, afterGrid, pastGrid}
+use Rattle.calls.specs.Pass.{Pass, Call, Progress, refusal, answer, count, next, planesAfter}
+use Rattle.sums.specs.Source.{Source, sourceTooLarge, badSource}
+use Rattle.sums.specs.Sums.{errorSum, pastSource, sumTooLarge, sumRefusal, sumAnswer}
 use Rattle.search.specs.Search.{SearchCall, score, search, anyTooLarge, pastEntries, searchRefusal, searchAnswer, scratchAfter, Searched}
+use Rattle.sums.specs.Answers.{searchRefusalNumber}
+use Rattle.sums.specs.declared.answers.SearchRefusal.{SearchRefusal}
 use Rattle.search.specs.Answers.{paramsOutcome}
-use Rattle.search.specs.SearchCode.{Ready, judgedOf}
-use Rattle.search.proofs.SumRefusals.{judged as judged-sum}
-use Rattle.search.specs.declared.answers.ParamsAnswer.{ParamsAnswer}
-use Rattle.search.specs.declared.judge.Judged.{Judged}
-use Rattle.search.specs.declared.judge.Judged.the-variants.{Refused, Accepted}
+use Rattle.scratch.proofs.Passes.{none-allowed}
+use Rattle.planes.proofs.PastGrid.{grid-none}
+use Rattle.search.specs.Private.SearchCode.{Ready, judgedOf}
+use Rattle.sums.proofs.SumRefusals.{judged as judged-sum}
+use Rattle.search.specs.declared.answers.ParamsAnswer.the-variants as params
+use Rattle.search.specs.declared.refusal.Judged.{Judged}
+use Rattle.search.specs.declared.refusal.Judged.the-variants.{Refused, Accepted}
 
 -- what a judgement says of the number of the refusal
 Judges : Judged → ℕ → Type 0
-Judges (Refused r) n = (paramsOutcome r ≡ refuses n) × (0 < n)
+Judges (Refused r) n = (searchRefusalNumber r ≡ n) × (0 < n)
 Judges Accepted n = n ≡ 0
 
 -- the number of an outcome that is a refusal or not
@@ -42,7 +45,7 @@ leaves : (z a b d d′ e f o y n m : Bool)
     → (_≡_ {A = ℕ} (cond z 0 (cond a 1 (cond b 2 (cond d 3 0)))) 0 → _≡_ {A = ℕ} (cond e 8 (cond f 9 0)) 0 → (n ≡ false) × (m ≡ false))
     → Judges (judgedOf (cond z 0 (cond a 1 (cond b 2 (cond d′ 3 (cond o 5 (cond y 6 0)))))) (cond z (cond e 8 (cond f 9 (cond m 10 0))) (cond a 1 (cond b 2 (cond d 3 (cond e 8 (cond f 9 (cond m 10 0))))))))
     (cond z (cond z (cond e 8 (cond f 9 (cond (z || o) (cond n 10 0) (cond y 6 (cond n 10 0))))) (cond a 1 (cond b 2 (cond d′ 3 (cond e 8 (cond f 9 (cond (z || o) (cond n 10 0) (cond y 6 (cond n 10 0))))))))) (cond a 1 (cond b 2 (cond d 3 (cond z (cond e 8 (cond f 9 (cond (z || o) (cond n 10 0) (cond y 6 (cond n 10 0))))) (cond a 1 (cond b 2 (cond d′ 3 (cond e 8 (cond f 9 (cond (z || o) (cond n 10 0) (cond y 6 (cond n 10 0)))))))))))))
-unfolding Judges judgedOf paramsOutcome
+unfolding Judges judgedOf searchRefusalNumber
 leaves true a b d d′ true f o y n m h = (refl, omega arith)
 leaves true a b d d′ false true o y n m h = (refl, omega arith)
 leaves true a b d d′ false false o y false false h = refl
@@ -72,7 +75,7 @@ leaves false false false false false false false false false false false h = ref
 leaves false false false false false false false false false true m h = no (h refl refl .0)
 leaves false false false false false false false false false false true h = no (h refl refl .1)
 
-told : (w : ParamsAnswer) (n : ℕ) → Judges (Refused w) n → (paramsOutcome w ≡ refuses n) × (0 < n)
+told : (w : SearchRefusal) (n : ℕ) → Judges (Refused w) n → (searchRefusalNumber w ≡ n) × (0 < n)
 unfolding Judges
 told w n k = k
 
@@ -85,7 +88,7 @@ module _ (W : Pass) (a : SearchCall W) where
   probe = record { grid = a .grid; settings = a .settings; carried = a .carried; lent = a .scratch; start = 0; allowance = 0 }
 
   -- where 1, 2, 3, 8 and 9 refuse nothing, no sum is too large
-  abbrev Small : Type 0
+  abbrev pub Small : Type 0
   Small =
       pastGrid (a .grid) (a .reconstruction) 0 ≡ 0 → pastSource (a .grid) (a .source) 0 ≡ 0
       → (anyTooLarge (score W a) (search W a .scored) ≡ false) × (sumTooLarge (errorSum (a .grid) (a .reconstruction) (a .source)) ≡ false)
@@ -95,17 +98,12 @@ module _ (W : Pass) (a : SearchCall W) where
   judged-numbers small =
       rw (le-ltb (macroblocks (a .grid)) 0 (omega arith))
       (leaves (zeroGrid (a .grid)) (tooLarge (a .grid)) (badStrides (a .grid)) (shortPlanes (a .grid) (a .reconstruction)) (shortPlanes (a .grid) (a .scratch))
-      (sourceTooLarge (a .grid) (a .source)) (badSource (a .source)) (W .otherLength (a .carried) (macroblocks (a .grid))) (W .badEntry (a .carried))
+      (sourceTooLarge (a .grid) (a .source)) (badSource (a .source)) (W .wrongLength (a .carried) (macroblocks (a .grid))) (W .badEntry (a .carried))
       (anyTooLarge (score W a) (search W a .scored)) (sumTooLarge (errorSum (a .grid) (a .reconstruction) (a .source))) small)
 
   -- the pass with allowance 0 changes nothing
   pub probe-keeps : planesAfter W probe ≡ a .scratch
-  unfolding planesAfter count steps
-  probe-keeps = let e : min 0 (macroblocks (a .grid) - 0) ≡ 0 = omega arith in rw e (by (eqb (refusal W probe) 0))
-    where
-      by : (b : Bool) → cond b (a .scratch) (a .scratch) ≡ a .scratch
-      by true = refl
-      by false = refl
+  probe-keeps = none-allowed W (a .grid) (a .settings) (a .carried) 0 (a .scratch)
 
   module _ (small : Small) (x : Outcome Progress) (ex : x ≡ answer W probe) (y : Outcome ℕ) (ey : y ≡ sumAnswer (a .grid) (a .reconstruction) (a .source)) (q r : ℕ) (eq : q ≡ numberOf x) (er : r ≡ numberOf y) (j : Judged) (ej : j ≡ judgedOf q r) where
     judged : Judges j (searchRefusal W a)
@@ -116,31 +114,20 @@ module _ (W : Pass) (a : SearchCall W) where
         ((er ∙ ap numberOf ey ∙ number-is (sumRefusal (a .grid) (a .reconstruction) (a .source)) (errorSum (a .grid) (a .reconstruction) (a .source))) i))))
         (judged-numbers small)
 
-    pub judged-refused : (w : ParamsAnswer) → j ≡ Refused w → (after : Planes) → after ≡ planesAfter W probe → Searched W a (paramsOutcome w) after
-    unfolding searchAnswer scratchAfter
+    pub judged-refused : (w : SearchRefusal) → j ≡ Refused w → (after : Planes) → after ≡ planesAfter W probe → Searched W a (paramsOutcome (params.Refused w)) after
+    unfolding searchAnswer scratchAfter paramsOutcome
     judged-refused w e after ea =
         let (o, p) = said (subst (λ (k : Judged). Judges k (searchRefusal W a)) e judged) in
         let n : eqb (searchRefusal W a) 0 ≡ false = ne-eqb (searchRefusal W a) 0 (λ z. omega arith) in
-        record { answer = rw n o; scratch = rw n (ea ∙ probe-keeps) }
+        record { answer = rw n (ap refuses o); scratch = rw n (ea ∙ probe-keeps) }
       where
-        said : Judges (Refused w) (searchRefusal W a) → (paramsOutcome w ≡ refuses (searchRefusal W a)) × (0 < searchRefusal W a)
+        said : Judges (Refused w) (searchRefusal W a) → (searchRefusalNumber w ≡ searchRefusal W a) × (0 < searchRefusal W a)
         said k = told w (searchRefusal W a) k
 
     pub judged-accepted : j ≡ Accepted → searchRefusal W a ≡ 0
     judged-accepted e = none-told (searchRefusal W a) (subst (λ (k : Judged). Judges k (searchRefusal W a)) e judged)
 
 -- ---- an accepted search
-
-grid-none : (g : Grid) (p : Planes) (rest : ℕ) → pastGrid g p rest ≡ 0 → (pastGrid g p 0 ≡ 0) × (rest ≡ 0)
-unfolding pastGrid afterGrid
-grid-none g p rest e = by (zeroGrid g) (tooLarge g) (badStrides g) (shortPlanes g p) e
-  where
-    by : (z a b d : Bool) → _≡_ {A = ℕ} (cond z rest (cond a 1 (cond b 2 (cond d 3 rest)))) 0 → (_≡_ {A = ℕ} (cond z 0 (cond a 1 (cond b 2 (cond d 3 0)))) 0) × (rest ≡ 0)
-    by true a b d e = (refl, e)
-    by false true b d e = absurd (omega arith)
-    by false false true d e = absurd (omega arith)
-    by false false false true e = absurd (omega arith)
-    by false false false false e = (refl, e)
 
 source-none : (g : Grid) (s : Source) (rest : ℕ) → pastSource g s rest ≡ 0 → pastSource g s 0 ≡ 0
 unfolding pastSource

@@ -1,12 +1,8 @@
 -- The laws of the definitions of this crate.
-pub mod SumLaws
-pub mod SumRefusals
-pub mod CopyLaws
-pub mod SumBounds
-pub mod SameGrid
-pub mod Passes
+pub mod CopiedSums
+pub mod CandidateLaws
 pub mod Scores
-pub mod TurnLaws
+pub mod TrialLaws
 pub mod PassBytes
 pub mod Judgements
 pub mod Endings

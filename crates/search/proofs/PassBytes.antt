@@ -14,19 +14,21 @@ use Rattle.kernels.specs.Kernels as K
 use Rattle.kernels.specs.Kernels.{adjustedP0, adjustedQ0}
 use Rattle.kernels.specs.Segment.{Kernel, commonAdjust, simpleSegment, subblockFilter, mbFilter, taps, smooth, gather, scatter, segment}
 use Rattle.kernels.proofs.Ranges.{clamp-in, up-lt}
-use Rattle.frame.specs.Steps.{steps}
-use Rattle.frame.specs.Planes.{Plane, luma, chromaU, chromaV, Planes, Grid, side, plane, onPlane, macroblocks, gridRow, gridColumn}
-use Rattle.frame.specs.Edges.{Edge, edgeTap, filterEdge, places}
-use Rattle.frame.specs.Macroblock.{Plan, edgesAt, filterEdges, filterMacroblock}
-use Rattle.frame.specs.Pass.{Pass, Call, refusal, step, count, planesAfter}
-use Rattle.frame.proofs.Facts.{All, none, _&_}
-use Rattle.frame.proofs.Steps.{steps-inv}
-use Rattle.search.specs.Sums.{pastGrid, pastSource, sumTooLarge}
-use Rattle.search.specs.Bytes.{Bytes, BytePlanes}
+use Rattle.planes.specs.Steps.{steps}
+use Rattle.planes.specs.Planes.{Plane, luma, chromaU, chromaV, Planes, Grid, side, plane, onPlane, macroblocks, gridRow, gridColumn}
+use Rattle.planes.specs.Edges.{Edge, edgeTap, filterEdge, places}
+use Rattle.planes.specs.Macroblock.{Plan, edgesAt, filterEdges, filterMacroblock}
+use Rattle.calls.specs.Pass.{Pass, Call, refusal, step, count, planesAfter}
+use Rattle.planes.proofs.AllOf.{All, none, _&_}
+use Rattle.planes.proofs.Steps.{steps-inv}
+use Rattle.planes.specs.GridRefusals.{pastGrid}
+use Rattle.sums.specs.Sums.{pastSource, sumTooLarge}
+use Rattle.sums.specs.Bytes.{Bytes, BytePlanes}
 use Rattle.search.specs.Candidates.{Candidate}
 use Rattle.search.specs.Search.{SearchCall, settingsAt, passOver, candidatePlanes, planesOfCandidate, score, anyTooLarge}
-use Rattle.search.proofs.SumBounds.{sum-fits}
-use Rattle.search.proofs.Passes.{past-lengths, candidate-length}
+use Rattle.sums.proofs.SumBounds.{sum-fits}
+use Rattle.planes.proofs.PastGrid.{past-lengths}
+use Rattle.search.proofs.CandidateLaws.{candidate-length}
 
 abbrev Byte : ℕ → Type 0
 Byte n = n < 256

@@ -9,24 +9,25 @@ use mir.Val.{Fits}
 use denote.Enum.Declared.{tagOf}
 use types.Run.{OneOf}
 use Rattle.kernels.specs.Answers.{gives}
-use Rattle.frame.specs.Planes.{luma, chromaU, chromaV, Planes, Grid, plane}
-use Rattle.frame.specs.Layout.{planesOf}
-use Rattle.frame.specs.Pass.{Pass}
-use Rattle.search.specs.Sums.{errorSum, pastGrid, sumAnswer}
-use Rattle.search.specs.Bytes.{Bytes, BytePlanes}
-use Rattle.search.specs.Copies.{copyGrid}
+use Rattle.planes.specs.Planes.{luma, chromaU, chromaV, Planes, Grid, plane}
+use Rattle.planes.specs.Layout.{planesOf}
+use Rattle.calls.specs.Pass.{Pass}
+use Rattle.sums.specs.Sums.{errorSum, sumAnswer}
+use Rattle.planes.specs.GridRefusals.{pastGrid}
+use Rattle.sums.specs.Bytes.{Bytes, BytePlanes}
+use Rattle.scratch.specs.Copies.{copyGrid}
 use Rattle.search.specs.Candidates.{Candidate}
 use Rattle.search.specs.Search.{SearchCall, planesOfCandidate, score}
-use Rattle.search.specs.SearchCode.{Ready, Alike}
-use Rattle.search.specs.Answers.{sumOutcome}
-use Rattle.search.specs.declared.answers.SumAnswer.{SumAnswer}
-use Rattle.search.specs.declared.answers.SumAnswer.the-variants.{Sum, TooLarge, BadStrides, ShortPlane, SourceTooLarge, BadSource, SumTooLarge}
-use Rattle.search.proofs.answers.SumAnswer.{the-type}
-use Rattle.search.proofs.SumLaws.{not-sum}
-use Rattle.search.proofs.SumRefusals.{ends-fit}
-use Rattle.search.proofs.SumBounds.{sum-fits, sum-copy}
-use Rattle.search.proofs.CopyLaws.{copied-length, copy-copy}
-use Rattle.search.proofs.Passes.{past-lengths}
+use Rattle.search.specs.Private.SearchCode.{Ready, Alike}
+use Rattle.sums.specs.Answers.{sumOutcome}
+use Rattle.sums.specs.declared.answers.SumAnswer.{SumAnswer}
+use Rattle.sums.specs.declared.answers.SumAnswer.the-variants.{Sum, Refused}
+use Rattle.sums.proofs.answers.SumAnswer.{the-type}
+use Rattle.sums.proofs.SumLaws.{not-sum}
+use Rattle.sums.proofs.SumRefusals.{ends-fit}
+use Rattle.sums.proofs.SumBounds.{sum-fits}
+use Rattle.search.proofs.CopiedSums.{sum-copy}
+use Rattle.scratch.proofs.CopyLaws.{copied-length, copy-copy, copy-past}
 
 pub byte-planes : (y u v : List ℕ) → ((i : ℕ) → Fits w8 (getD y i 0)) → ((i : ℕ) → Fits w8 (getD u i 0)) → ((i : ℕ) → Fits w8 (getD v i 0)) → BytePlanes (planesOf y u v)
 unfolding BytePlanes Bytes
@@ -37,21 +38,12 @@ byte-planes y u v hy hu hv chromaV = λ i. hv i .fits
 -- an answer that gives a number is a sum
 pub gives-sum : (r : SumAnswer) (n : ℕ) → sumOutcome r ≡ gives n → ((m : ℕ) → r ≡ Sum m → ⊥) → ⊥
 unfolding sumOutcome
-gives-sum (Sum m) n e no-sum = no-sum m refl
-gives-sum TooLarge n e no-sum = let z : _≡_ {A = ℕ} 0 1 = cc in omega arith
-gives-sum BadStrides n e no-sum = let z : _≡_ {A = ℕ} 0 1 = cc in omega arith
-gives-sum ShortPlane n e no-sum = let z : _≡_ {A = ℕ} 0 1 = cc in omega arith
-gives-sum SourceTooLarge n e no-sum = let z : _≡_ {A = ℕ} 0 1 = cc in omega arith
-gives-sum BadSource n e no-sum = let z : _≡_ {A = ℕ} 0 1 = cc in omega arith
-gives-sum SumTooLarge n e no-sum = let z : _≡_ {A = ℕ} 0 1 = cc in omega arith
+gives-sum (Sum m) n e none = none m refl
+gives-sum (Refused why) n e none = let z : _≡_ {A = ℕ} 0 1 = cc in omega arith
 
 pub sum-given : (m n : ℕ) → sumOutcome (Sum m) ≡ gives n → m ≡ n
 unfolding sumOutcome
 sum-given m n e = cc
-
--- a copy over scratch planes is as long as they are
-pub copy-past : (g : Grid) (p t : Planes) → pastGrid g (copyGrid g p t) 0 ≡ pastGrid g t 0
-copy-past g p t = past-lengths g (copyGrid g p t) t 0 (copied-length g p t)
 
 pub alike-copy : (g : Grid) (x t after : Planes) → pastGrid g t 0 ≡ 0 → after ≡ copyGrid g x t → Alike g t after
 alike-copy g x t after e h = record {
@@ -78,5 +70,5 @@ module _ (W : Pass) (a : SearchCall W) (ready : Ready W a) (c : Candidate) (afte
   pub scored-sum : (m : ℕ) → r ≡ Sum m → m ≡ score W a c
   scored-sum m q = sum-given m (score W a c) (ap sumOutcome (sym q) ∙ given)
 
-  pub scored-always : OneOf (1 ∷ 2 ∷ 3 ∷ 4 ∷ 5 ∷ 6 ∷ []) (tagOf the-type r) → ⊥
+  pub scored-always : OneOf (1 ∷ []) (tagOf the-type r) → ⊥
   scored-always k = gives-sum r (score W a c) given (not-sum r k)

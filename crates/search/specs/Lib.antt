@@ -1,10 +1,6 @@
--- The error sums and the search (document 01, Search).
-pub mod Source
-pub mod Sums
-pub mod Bytes
-pub mod Copies
+-- The search for the level and the sharpness with the smallest error sum (document 01, Search).
 pub mod Candidates
 pub mod Search
 pub mod Answers
-pub mod SumCode
-pub mod SearchCode
+-- what private functions promise each other: steps of the proof, which no public contract cites
+pub mod Private

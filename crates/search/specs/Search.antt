@@ -7,15 +7,15 @@ use Prim.Native.Nat.{ℕ, min}
 use lib.Dec.{eqb}
 use Rattle.kernels.specs.Answers.{Outcome, gives, refuses}
 use Rattle.levels.specs.declared.config.FrameFilterConfig.{FrameFilterConfig}
-use Rattle.frame.specs.Planes.{Planes, Grid, macroblocks}
-use Rattle.frame.specs.Refusals.{zeroGrid}
-use Rattle.frame.specs.Entries.{KeyLists, InterLists, KeyCarried, InterCarried}
-use Rattle.frame.specs.Layout.{gridOf}
-use Rattle.frame.specs.Pass.{Pass, keyPass, interPass, planesAfter}
-use Rattle.frame.specs.declared.layout.PlaneLayout.{PlaneLayout}
-use Rattle.search.specs.Source.{Source}
-use Rattle.search.specs.Sums.{errorSum, pastGrid, pastSource, sumTooLarge}
-use Rattle.search.specs.Copies.{copyGrid}
+use Rattle.planes.specs.Planes.{Planes, Grid, macroblocks}
+use Rattle.planes.specs.GridRefusals.{zeroGrid, pastGrid}
+use Rattle.calls.specs.Entries.{KeyLists, InterLists, KeyCarried, InterCarried}
+use Rattle.planes.specs.Layout.{gridOf}
+use Rattle.calls.specs.Pass.{Pass, keyPass, interPass, planesAfter}
+use Rattle.planes.specs.declared.layout.PlaneLayout.{PlaneLayout}
+use Rattle.sums.specs.Source.{Source}
+use Rattle.sums.specs.Sums.{errorSum, pastSource, sumTooLarge}
+use Rattle.scratch.specs.Copies.{copyGrid}
 use Rattle.search.specs.Candidates.{Candidate, Standing, aboveZero, searched}
 
 -- the arguments of one call
@@ -86,7 +86,7 @@ anyTooLarge score (c ∷ cs) = sumTooLarge (score c) || anyTooLarge score cs
 -- 6 if there is a grid and lengths are right, then what else there is to refuse
 unfoldable pub pastEntries : (W : Pass) → SearchCall W → (rest : ℕ) → ℕ
 pastEntries W a rest =
-    cond (zeroGrid (a .grid) || W .otherLength (a .carried) (macroblocks (a .grid))) rest (cond (W .badEntry (a .carried)) 6 rest)
+    cond (zeroGrid (a .grid) || W .wrongLength (a .carried) (macroblocks (a .grid))) rest (cond (W .badEntry (a .carried)) 6 rest)
 
 -- the number of the refusal, or 0: 1, 2, 3 of planes and of scratch planes, 8, 9, 6, 10
 unfoldable pub searchRefusal : (W : Pass) → SearchCall W → ℕ

@@ -1,24 +1,21 @@
 // The candidates of a search: made in the scratch planes by a copy and a pass, and scored against the source.
-use crate::answers::SumAnswer;
-use crate::copies::copy_grid;
-use crate::sums::reconstruction_ssd;
-use crate::turns::Found;
-use crate::turns::Turn;
-use crate::turns::take;
-use frame::answers::PassAnswer;
-use frame::layout::PlaneLayout;
-use frame::pass::filter_frame;
-use frame::pass::filter_inter_frame;
+use crate::trials::Best;
+use crate::trials::Trial;
+use crate::trials::take;
 use levels::config::FrameFilterConfig;
+use planes::layout::PlaneLayout;
+use scratch::copies::copy_grid;
+use scratch::either::either_pass;
+use sums::answers::SumAnswer;
+use sums::sums::reconstruction_ssd;
 ghost use mathlib.Core.Path.{_≡_};
 ghost use Prim.Native.Nat.{_<_};
-ghost use Rattle.frame.specs.Answers.{passOutcome};
-ghost use Rattle.frame.specs.Layout.{gridOf, planesOf};
-ghost use Rattle.frame.specs.Pass.{answer, planesAfter};
-ghost use Rattle.search.specs.Sums.{pastGrid};
-ghost use Rattle.search.specs.Copies.{copyGrid};
+ghost use Rattle.planes.specs.GridRefusals.{pastGrid};
+ghost use Rattle.planes.specs.Layout.{gridOf, planesOf};
+ghost use Rattle.scratch.specs.Copies.{copyGrid};
+ghost use Rattle.scratch.specs.EitherPass.{passOf, carriedOf};
 ghost use Rattle.search.specs.Search.{settingsAt, candidatePlanes};
-ghost use Rattle.search.specs.SearchCode.{passOf, carriedOf, passCall, callOf, Ready, Scored, Tried};
+ghost use Rattle.search.specs.Private.SearchCode.{callOf, Ready, Scored, Tried};
 
 // What a search is given besides the slices. `inter` tells the inter pass from the key pass.
 pub struct Setup {
@@ -29,54 +26,6 @@ pub struct Setup {
     pub height: usize,
     pub y_stride: usize,
     pub uv_stride: usize,
-}
-
-// Either pass, from start 0.
-pub(crate) fn run_pass(
-    ty: &mut [u8],
-    tu: &mut [u8],
-    tv: &mut [u8],
-    modes: &[u8],
-    segments: &[u8],
-    flags: &[u8],
-    references: &[u8],
-    inter_modes: &[u8],
-    layout: PlaneLayout,
-    config: FrameFilterConfig,
-    inter: bool,
-    allowance: usize,
-) -> PassAnswer
-    ensures answered { λ r. ⌜ passOutcome r ≡ answer (passOf inter) (passCall inter layout config (now (modes .entry)) (now (segments .entry)) (now (flags .entry)) (now (references .entry)) (now («inter_modes» .entry)) (planesOf (now (ty .entry)) (now (tu .entry)) (now (tv .entry))) allowance) ⌝ }
-    ensures filtered { λ _. ⌜ planesOf (now (ty .exit)) (now (tu .exit)) (now (tv .exit)) ≡ planesAfter (passOf inter) (passCall inter layout config (now (modes .entry)) (now (segments .entry)) (now (flags .entry)) (now (references .entry)) (now («inter_modes» .entry)) (planesOf (now (ty .entry)) (now (tu .entry)) (now (tv .entry))) allowance) ⌝ }
-{
-    if inter {
-        return filter_inter_frame(
-            ty,
-            tu,
-            tv,
-            layout,
-            modes,
-            segments,
-            flags,
-            references,
-            inter_modes,
-            config,
-            0,
-            allowance,
-        );
-    }
-    filter_frame(
-        ty,
-        tu,
-        tv,
-        layout,
-        modes,
-        segments,
-        flags,
-        config,
-        0,
-        allowance,
-    )
 }
 
 // The settings with a candidate's level and sharpness.
@@ -94,9 +43,9 @@ pub(crate) fn make_candidate(
     y: &[u8],
     u: &[u8],
     v: &[u8],
-    ty: &mut [u8],
-    tu: &mut [u8],
-    tv: &mut [u8],
+    scratch_y: &mut [u8],
+    scratch_u: &mut [u8],
+    scratch_v: &mut [u8],
     modes: &[u8],
     segments: &[u8],
     flags: &[u8],
@@ -106,21 +55,28 @@ pub(crate) fn make_candidate(
     level: u8,
     sharpness: u8,
 )
-    requires { ⌜ (pastGrid (gridOf (setup .«layout»)) (planesOf (now y) (now u) (now v)) 0 ≡ 0) × (pastGrid (gridOf (setup .«layout»)) (planesOf (now ty) (now tu) (now tv)) 0 ≡ 0) ⌝ }
-    ensures { λ _. ⌜ planesOf (now (ty .exit)) (now (tu .exit)) (now (tv .exit)) ≡ copyGrid (gridOf (setup .«layout»)) (candidatePlanes (passOf (setup .«inter»)) (gridOf (setup .«layout»)) (setup .«config») (carriedOf (setup .«inter») (now (modes .entry)) (now (segments .entry)) (now (flags .entry)) (now (references .entry)) (now («inter_modes» .entry))) (planesOf (now (y .entry)) (now (u .entry)) (now (v .entry))) (record { level = level; sharpness = sharpness })) (planesOf (now (ty .entry)) (now (tu .entry)) (now (tv .entry))) ⌝ }
+    requires { ⌜ (pastGrid (gridOf (setup .«layout»)) (planesOf (now y) (now u) (now v)) 0 ≡ 0)
+        × (pastGrid (gridOf (setup .«layout»)) (planesOf (now «scratch_y») (now «scratch_u») (now «scratch_v»)) 0 ≡ 0) ⌝ }
+    ensures { λ _. ⌜ planesOf (now («scratch_y» .exit)) (now («scratch_u» .exit)) (now («scratch_v» .exit))
+        ≡ copyGrid (gridOf (setup .«layout»))
+        (candidatePlanes (passOf (setup .«inter»)) (gridOf (setup .«layout»)) (setup .«config»)
+        (carriedOf (setup .«inter») (now (modes .entry)) (now (segments .entry)) (now (flags .entry)) (now (references .entry)) (now («inter_modes» .entry)))
+        (planesOf (now (y .entry)) (now (u .entry)) (now (v .entry)))
+        (record { level = level; sharpness = sharpness }))
+        (planesOf (now («scratch_y» .entry)) (now («scratch_u» .entry)) (now («scratch_v» .entry))) ⌝ }
 {
     let layout = setup.layout;
-    copy_grid(y, u, v, ty, tu, tv, layout);
+    copy_grid(y, u, v, scratch_y, scratch_u, scratch_v, layout);
     if level == 0 {
         return;
     }
     let config = settings_at(setup.config, level, sharpness);
     let inter = setup.inter;
     let all = 18446744073709551615;
-    run_pass(
-        ty,
-        tu,
-        tv,
+    either_pass(
+        scratch_y,
+        scratch_u,
+        scratch_v,
         modes,
         segments,
         flags,
@@ -129,6 +85,7 @@ pub(crate) fn make_candidate(
         layout,
         config,
         inter,
+        0,
         all,
     );
 }
@@ -138,9 +95,9 @@ fn score<'s>(
     y: &[u8],
     u: &[u8],
     v: &[u8],
-    ty: &mut [u8],
-    tu: &mut [u8],
-    tv: &mut [u8],
+    scratch_y: &mut [u8],
+    scratch_u: &mut [u8],
+    scratch_v: &mut [u8],
     modes: &[u8],
     segments: &[u8],
     flags: &[u8],
@@ -153,16 +110,28 @@ fn score<'s>(
     src_u: &'s [u8],
     src_v: &'s [u8],
 ) -> u64
-    requires { ⌜ Ready (passOf (setup .«inter»)) (callOf setup (planesOf (now y) (now u) (now v)) (planesOf (now ty) (now tu) (now tv)) (now modes) (now segments) (now flags) (now references) (now «inter_modes») (now «src_y») (now «src_u») (now «src_v»)) ⌝ }
-    ensures { λ r. ⌜ Scored (passOf (setup .«inter»)) (callOf setup (planesOf (now (y .entry)) (now (u .entry)) (now (v .entry))) (planesOf (now (ty .entry)) (now (tu .entry)) (now (tv .entry))) (now (modes .entry)) (now (segments .entry)) (now (flags .entry)) (now (references .entry)) (now («inter_modes» .entry)) (now («src_y» .entry)) (now («src_u» .entry)) (now («src_v» .entry))) (record { level = level; sharpness = sharpness }) r (planesOf (now (ty .exit)) (now (tu .exit)) (now (tv .exit))) ⌝ }
+    requires { ⌜ Ready (passOf (setup .«inter»))
+        (callOf setup
+        (planesOf (now y) (now u) (now v))
+        (planesOf (now «scratch_y») (now «scratch_u») (now «scratch_v»))
+        (now modes) (now segments) (now flags) (now references) (now «inter_modes»)
+        (now «src_y») (now «src_u») (now «src_v»)) ⌝ }
+    ensures { λ r. ⌜ Scored (passOf (setup .«inter»))
+        (callOf setup
+        (planesOf (now (y .entry)) (now (u .entry)) (now (v .entry)))
+        (planesOf (now («scratch_y» .entry)) (now («scratch_u» .entry)) (now («scratch_v» .entry)))
+        (now (modes .entry)) (now (segments .entry)) (now (flags .entry)) (now (references .entry)) (now («inter_modes» .entry))
+        (now («src_y» .entry)) (now («src_u» .entry)) (now («src_v» .entry)))
+        (record { level = level; sharpness = sharpness }) r
+        (planesOf (now («scratch_y» .exit)) (now («scratch_u» .exit)) (now («scratch_v» .exit))) ⌝ }
 {
     make_candidate(
         y,
         u,
         v,
-        ty,
-        tu,
-        tv,
+        scratch_y,
+        scratch_u,
+        scratch_v,
         modes,
         segments,
         flags,
@@ -174,9 +143,9 @@ fn score<'s>(
     );
     let layout = setup.layout;
     let SumAnswer::Sum(sum) = reconstruction_ssd(
-        &*ty,
-        &*tu,
-        &*tv,
+        &*scratch_y,
+        &*scratch_u,
+        &*scratch_v,
         layout,
         setup.width,
         setup.height,
@@ -191,42 +160,54 @@ fn score<'s>(
     sum
 }
 
-// A turn: a candidate is scored and taken if it is better, or passed over.
+// A trial: a candidate is scored and taken if it is better, or passed over.
 pub(crate) fn try_candidate<'s>(
     y: &[u8],
     u: &[u8],
     v: &[u8],
-    ty: &mut [u8],
-    tu: &mut [u8],
-    tv: &mut [u8],
+    scratch_y: &mut [u8],
+    scratch_u: &mut [u8],
+    scratch_v: &mut [u8],
     modes: &[u8],
     segments: &[u8],
     flags: &[u8],
     references: &[u8],
     inter_modes: &[u8],
     setup: Setup,
-    found: Found,
-    turn: Turn,
+    best: Best,
+    trial: Trial,
     src_y: &'s [u8],
     src_u: &'s [u8],
     src_v: &'s [u8],
-) -> Found
-    requires { ⌜ Ready (passOf (setup .«inter»)) (callOf setup (planesOf (now y) (now u) (now v)) (planesOf (now ty) (now tu) (now tv)) (now modes) (now segments) (now flags) (now references) (now «inter_modes») (now «src_y») (now «src_u») (now «src_v»)) ⌝ }
-    requires { ⌜ found .«count» < 100 ⌝ }
-    ensures { λ r. ⌜ Tried (passOf (setup .«inter»)) (callOf setup (planesOf (now (y .entry)) (now (u .entry)) (now (v .entry))) (planesOf (now (ty .entry)) (now (tu .entry)) (now (tv .entry))) (now (modes .entry)) (now (segments .entry)) (now (flags .entry)) (now (references .entry)) (now («inter_modes» .entry)) (now («src_y» .entry)) (now («src_u» .entry)) (now («src_v» .entry))) turn found r (planesOf (now (ty .exit)) (now (tu .exit)) (now (tv .exit))) ⌝ }
+) -> Best
+    requires { ⌜ Ready (passOf (setup .«inter»))
+        (callOf setup
+        (planesOf (now y) (now u) (now v))
+        (planesOf (now «scratch_y») (now «scratch_u») (now «scratch_v»))
+        (now modes) (now segments) (now flags) (now references) (now «inter_modes»)
+        (now «src_y») (now «src_u») (now «src_v»)) ⌝ }
+    requires { ⌜ best .«count» < 100 ⌝ }
+    ensures { λ r. ⌜ Tried (passOf (setup .«inter»))
+        (callOf setup
+        (planesOf (now (y .entry)) (now (u .entry)) (now (v .entry)))
+        (planesOf (now («scratch_y» .entry)) (now («scratch_u» .entry)) (now («scratch_v» .entry)))
+        (now (modes .entry)) (now (segments .entry)) (now (flags .entry)) (now (references .entry)) (now («inter_modes» .entry))
+        (now («src_y» .entry)) (now («src_u» .entry)) (now («src_v» .entry)))
+        trial best r
+        (planesOf (now («scratch_y» .exit)) (now («scratch_u» .exit)) (now («scratch_v» .exit))) ⌝ }
 {
-    if turn.skip {
-        return found;
+    if trial.skip {
+        return best;
     }
-    let level = turn.level;
-    let sharpness = turn.sharpness;
+    let level = trial.level;
+    let sharpness = trial.sharpness;
     let sum = score(
         y,
         u,
         v,
-        ty,
-        tu,
-        tv,
+        scratch_y,
+        scratch_u,
+        scratch_v,
         modes,
         segments,
         flags,
@@ -239,5 +220,5 @@ pub(crate) fn try_candidate<'s>(
         src_u,
         src_v,
     );
-    take(found, level, sharpness, sum)
+    take(best, level, sharpness, sum)
 }

@@ -1,40 +1,43 @@
 // The search for the level and the sharpness with the smallest error sum (document 01, Search; the Rust's select_filter_params and select_filter_level).
-use crate::answers::LevelAnswer;
+use crate::answers::LevelOnlyAnswer;
 use crate::answers::ParamsAnswer;
-use crate::answers::SumAnswer;
 use crate::candidates::Setup;
 use crate::candidates::make_candidate;
-use crate::candidates::run_pass;
 use crate::candidates::try_candidate;
-use crate::judge::Judged;
-use crate::judge::judge;
-use crate::judge::pass_number;
-use crate::judge::sum_number;
-use crate::sums::reconstruction_ssd;
-use crate::turns::Found;
-use crate::turns::base_sharpness;
-use crate::turns::mark;
-use crate::turns::next_turn;
-use frame::layout::PlaneLayout;
+use crate::refusal::Judged;
+use crate::refusal::judge_search;
+use crate::refusal::pass_number;
+use crate::refusal::sum_number;
+use crate::trials::Best;
+use crate::trials::TRIALS;
+use crate::trials::base_sharpness;
+use crate::trials::next_trial;
+use crate::trials::note_winner;
 use levels::config::FrameFilterConfig;
+use planes::layout::PlaneLayout;
+use scratch::either::either_pass;
+use sums::answers::SearchRefusal;
+use sums::answers::SumAnswer;
+use sums::sums::reconstruction_ssd;
 ghost use mathlib.Core.Path.{_≡_};
-ghost use Rattle.frame.specs.Layout.{gridOf, planesOf};
-ghost use Rattle.frame.specs.Pass.{keyPass, interPass};
-ghost use Rattle.frame.specs.PassCalls.{keyLists, interLists};
-ghost use Rattle.search.specs.Source.{sourceOf};
-ghost use Rattle.search.specs.Sums.{errorSum};
+ghost use Rattle.planes.specs.Layout.{gridOf, planesOf};
+ghost use Rattle.calls.specs.Pass.{keyPass, interPass};
+ghost use Rattle.calls.specs.PassCalls.{keyLists, interLists};
+ghost use Rattle.sums.specs.Source.{sourceOf};
+ghost use Rattle.sums.specs.Sums.{errorSum};
+ghost use Rattle.scratch.specs.EitherPass.{passOf};
 ghost use Rattle.search.specs.Search.{keySearch, interSearch, Searched, LevelSearched, levelOnly};
-ghost use Rattle.search.specs.Answers.{paramsOutcome, levelOutcome};
-ghost use Rattle.search.specs.SearchCode.{passOf, callOf, Ready, Turned, Ended};
+ghost use Rattle.search.specs.Answers.{paramsOutcome, levelOnlyOutcome};
+ghost use Rattle.search.specs.Private.SearchCode.{callOf, Ready, AllTried, Ended};
 
-// The turns, one after the other.
-fn search_turns<'s>(
+// The trials, one after the other.
+fn search_trials<'s>(
     y: &[u8],
     u: &[u8],
     v: &[u8],
-    ty: &mut [u8],
-    tu: &mut [u8],
-    tv: &mut [u8],
+    scratch_y: &mut [u8],
+    scratch_u: &mut [u8],
+    scratch_v: &mut [u8],
     modes: &[u8],
     segments: &[u8],
     flags: &[u8],
@@ -42,42 +45,54 @@ fn search_turns<'s>(
     inter_modes: &[u8],
     setup: Setup,
     base: u8,
-    start: Found,
+    start: Best,
     src_y: &'s [u8],
     src_u: &'s [u8],
     src_v: &'s [u8],
-) -> Found
-    requires { ⌜ Ready (passOf (setup .«inter»)) (callOf setup (planesOf (now y) (now u) (now v)) (planesOf (now ty) (now tu) (now tv)) (now modes) (now segments) (now flags) (now references) (now «inter_modes») (now «src_y») (now «src_u») (now «src_v»)) ⌝ }
+) -> Best
+    requires { ⌜ Ready (passOf (setup .«inter»))
+        (callOf setup
+        (planesOf (now y) (now u) (now v))
+        (planesOf (now «scratch_y») (now «scratch_u») (now «scratch_v»))
+        (now modes) (now segments) (now flags) (now references) (now «inter_modes»)
+        (now «src_y») (now «src_u») (now «src_v»)) ⌝ }
     requires { ⌜ start .«count» ≡ 0 ⌝ }
-    ensures { λ r. ⌜ Turned (passOf (setup .«inter»)) (callOf setup (planesOf (now (y .entry)) (now (u .entry)) (now (v .entry))) (planesOf (now (ty .entry)) (now (tu .entry)) (now (tv .entry))) (now (modes .entry)) (now (segments .entry)) (now (flags .entry)) (now (references .entry)) (now («inter_modes» .entry)) (now («src_y» .entry)) (now («src_u» .entry)) (now («src_v» .entry))) base start r (planesOf (now (ty .exit)) (now (tu .exit)) (now (tv .exit))) ⌝ }
+    ensures { λ r. ⌜ AllTried (passOf (setup .«inter»))
+        (callOf setup
+        (planesOf (now (y .entry)) (now (u .entry)) (now (v .entry)))
+        (planesOf (now («scratch_y» .entry)) (now («scratch_u» .entry)) (now («scratch_v» .entry)))
+        (now (modes .entry)) (now (segments .entry)) (now (flags .entry)) (now (references .entry)) (now («inter_modes» .entry))
+        (now («src_y» .entry)) (now («src_u» .entry)) (now («src_v» .entry)))
+        base start r
+        (planesOf (now («scratch_y» .exit)) (now («scratch_u» .exit)) (now («scratch_v» .exit))) ⌝ }
 {
-    let mut found = start;
+    let mut best = start;
     let mut i = 0;
-    while i < 88 {
-        let turn = next_turn(base, i, found);
+    while i < TRIALS {
+        let trial = next_trial(base, i, best);
         let next = try_candidate(
             y,
             u,
             v,
-            ty,
-            tu,
-            tv,
+            scratch_y,
+            scratch_u,
+            scratch_v,
             modes,
             segments,
             flags,
             references,
             inter_modes,
             setup,
-            found,
-            turn,
+            best,
+            trial,
             src_y,
             src_u,
             src_v,
         );
-        found = mark(i, next);
+        best = note_winner(i, next);
         i += 1;
     }
-    found
+    best
 }
 
 // The best candidate, left in the grid of the scratch planes. `sum` is the unfiltered sum.
@@ -85,9 +100,9 @@ fn search_all<'s>(
     y: &[u8],
     u: &[u8],
     v: &[u8],
-    ty: &mut [u8],
-    tu: &mut [u8],
-    tv: &mut [u8],
+    scratch_y: &mut [u8],
+    scratch_u: &mut [u8],
+    scratch_v: &mut [u8],
     modes: &[u8],
     segments: &[u8],
     flags: &[u8],
@@ -98,27 +113,41 @@ fn search_all<'s>(
     src_y: &'s [u8],
     src_u: &'s [u8],
     src_v: &'s [u8],
-) -> Found
-    requires { ⌜ Ready (passOf (setup .«inter»)) (callOf setup (planesOf (now y) (now u) (now v)) (planesOf (now ty) (now tu) (now tv)) (now modes) (now segments) (now flags) (now references) (now «inter_modes») (now «src_y») (now «src_u») (now «src_v»)) ⌝ }
-    requires { ⌜ sum ≡ errorSum (gridOf (setup .«layout»)) (planesOf (now y) (now u) (now v)) (sourceOf (setup .«width») (setup .«height») (now «src_y») (now «src_u») (now «src_v») (setup .«y_stride») (setup .«uv_stride»)) ⌝ }
-    ensures { λ r. ⌜ Ended (passOf (setup .«inter»)) (callOf setup (planesOf (now (y .entry)) (now (u .entry)) (now (v .entry))) (planesOf (now (ty .entry)) (now (tu .entry)) (now (tv .entry))) (now (modes .entry)) (now (segments .entry)) (now (flags .entry)) (now (references .entry)) (now («inter_modes» .entry)) (now («src_y» .entry)) (now («src_u» .entry)) (now («src_v» .entry))) r (planesOf (now (ty .exit)) (now (tu .exit)) (now (tv .exit))) ⌝ }
+) -> Best
+    requires { ⌜ Ready (passOf (setup .«inter»))
+        (callOf setup
+        (planesOf (now y) (now u) (now v))
+        (planesOf (now «scratch_y») (now «scratch_u») (now «scratch_v»))
+        (now modes) (now segments) (now flags) (now references) (now «inter_modes»)
+        (now «src_y») (now «src_u») (now «src_v»)) ⌝ }
+    requires { ⌜ sum ≡ errorSum (gridOf (setup .«layout»))
+        (planesOf (now y) (now u) (now v))
+        (sourceOf (setup .«width») (setup .«height») (now «src_y») (now «src_u») (now «src_v») (setup .«y_stride») (setup .«uv_stride»)) ⌝ }
+    ensures { λ r. ⌜ Ended (passOf (setup .«inter»))
+        (callOf setup
+        (planesOf (now (y .entry)) (now (u .entry)) (now (v .entry)))
+        (planesOf (now («scratch_y» .entry)) (now («scratch_u» .entry)) (now («scratch_v» .entry)))
+        (now (modes .entry)) (now (segments .entry)) (now (flags .entry)) (now (references .entry)) (now («inter_modes» .entry))
+        (now («src_y» .entry)) (now («src_u» .entry)) (now («src_v» .entry)))
+        r
+        (planesOf (now («scratch_y» .exit)) (now («scratch_u» .exit)) (now («scratch_v» .exit))) ⌝ }
 {
     let config = setup.config;
     let base = base_sharpness(config.sharpness_level);
-    let start = Found {
+    let start = Best {
         level: 0,
         sharpness: base,
         sum: sum,
         count: 0,
         winner: 0,
     };
-    let found = search_turns(
+    let best = search_trials(
         y,
         u,
         v,
-        ty,
-        tu,
-        tv,
+        scratch_y,
+        scratch_u,
+        scratch_v,
         modes,
         segments,
         flags,
@@ -135,19 +164,19 @@ fn search_all<'s>(
         y,
         u,
         v,
-        ty,
-        tu,
-        tv,
+        scratch_y,
+        scratch_u,
+        scratch_v,
         modes,
         segments,
         flags,
         references,
         inter_modes,
         setup,
-        found.level,
-        found.sharpness,
+        best.level,
+        best.sharpness,
     );
-    found
+    best
 }
 
 // Either search. The pass with allowance 0 changes nothing, and judges the scratch planes and the lists.
@@ -155,9 +184,9 @@ fn select_params<'s>(
     y: &[u8],
     u: &[u8],
     v: &[u8],
-    ty: &mut [u8],
-    tu: &mut [u8],
-    tv: &mut [u8],
+    scratch_y: &mut [u8],
+    scratch_u: &mut [u8],
+    scratch_v: &mut [u8],
     modes: &[u8],
     segments: &[u8],
     flags: &[u8],
@@ -168,14 +197,21 @@ fn select_params<'s>(
     src_u: &'s [u8],
     src_v: &'s [u8],
 ) -> ParamsAnswer
-    ensures { λ r. ⌜ Searched (passOf (setup .«inter»)) (callOf setup (planesOf (now (y .entry)) (now (u .entry)) (now (v .entry))) (planesOf (now (ty .entry)) (now (tu .entry)) (now (tv .entry))) (now (modes .entry)) (now (segments .entry)) (now (flags .entry)) (now (references .entry)) (now («inter_modes» .entry)) (now («src_y» .entry)) (now («src_u» .entry)) (now («src_v» .entry))) (paramsOutcome r) (planesOf (now (ty .exit)) (now (tu .exit)) (now (tv .exit))) ⌝ }
+    ensures { λ r. ⌜ Searched (passOf (setup .«inter»))
+        (callOf setup
+        (planesOf (now (y .entry)) (now (u .entry)) (now (v .entry)))
+        (planesOf (now («scratch_y» .entry)) (now («scratch_u» .entry)) (now («scratch_v» .entry)))
+        (now (modes .entry)) (now (segments .entry)) (now (flags .entry)) (now (references .entry)) (now («inter_modes» .entry))
+        (now («src_y» .entry)) (now («src_u» .entry)) (now («src_v» .entry)))
+        (paramsOutcome r)
+        (planesOf (now («scratch_y» .exit)) (now («scratch_u» .exit)) (now («scratch_v» .exit))) ⌝ }
 {
     let layout = setup.layout;
     let config = setup.config;
-    let pass = run_pass(
-        ty,
-        tu,
-        tv,
+    let pass = either_pass(
+        scratch_y,
+        scratch_u,
+        scratch_v,
         modes,
         segments,
         flags,
@@ -184,6 +220,7 @@ fn select_params<'s>(
         layout,
         config,
         setup.inter,
+        0,
         0,
     );
     let unfiltered = reconstruction_ssd(
@@ -199,19 +236,19 @@ fn select_params<'s>(
         setup.y_stride,
         setup.uv_stride,
     );
-    if let Judged::Refused(answer) = judge(pass_number(pass), sum_number(unfiltered)) {
-        return answer;
+    if let Judged::Refused(refusal) = judge_search(pass_number(pass), sum_number(unfiltered)) {
+        return ParamsAnswer::Refused(refusal);
     }
     let SumAnswer::Sum(sum) = unfiltered else {
-        return ParamsAnswer::SumTooLarge;
+        return ParamsAnswer::Refused(SearchRefusal::SumTooLarge);
     };
-    let found = search_all(
+    let best = search_all(
         y,
         u,
         v,
-        ty,
-        tu,
-        tv,
+        scratch_y,
+        scratch_u,
+        scratch_v,
         modes,
         segments,
         flags,
@@ -224,32 +261,26 @@ fn select_params<'s>(
         src_v,
     );
     ParamsAnswer::Chosen {
-        level: found.level,
-        sharpness: found.sharpness,
-        count: found.count,
+        level: best.level,
+        sharpness: best.sharpness,
+        count: best.count,
     }
 }
 
 // The same answer without the sharpness.
-fn level_of(answer: ParamsAnswer) -> LevelAnswer
-    ensures { λ r. ⌜ levelOutcome r ≡ levelOnly (paramsOutcome answer) ⌝ }
+fn level_of(answer: ParamsAnswer) -> LevelOnlyAnswer
+    ensures { λ r. ⌜ levelOnlyOutcome r ≡ levelOnly (paramsOutcome answer) ⌝ }
 {
     match answer {
         ParamsAnswer::Chosen {
             level,
             sharpness: _,
             count,
-        } => LevelAnswer::Chosen {
+        } => LevelOnlyAnswer::Chosen {
             level: level,
             count: count,
         },
-        ParamsAnswer::TooLarge => LevelAnswer::TooLarge,
-        ParamsAnswer::BadStrides => LevelAnswer::BadStrides,
-        ParamsAnswer::ShortPlane => LevelAnswer::ShortPlane,
-        ParamsAnswer::BadEntry => LevelAnswer::BadEntry,
-        ParamsAnswer::SourceTooLarge => LevelAnswer::SourceTooLarge,
-        ParamsAnswer::BadSource => LevelAnswer::BadSource,
-        ParamsAnswer::SumTooLarge => LevelAnswer::SumTooLarge,
+        ParamsAnswer::Refused(refusal) => LevelOnlyAnswer::Refused(refusal),
     }
 }
 
@@ -274,7 +305,14 @@ pub fn select_filter_params<'s>(
     src_y_stride: usize,
     src_uv_stride: usize,
 ) -> ParamsAnswer
-    ensures { λ r. ⌜ Searched keyPass (keySearch layout config (keyLists (now (modes .entry)) (now (segments .entry)) (now (flags .entry))) (planesOf (now (y .entry)) (now (u .entry)) (now (v .entry))) (planesOf (now («scratch_y» .entry)) (now («scratch_u» .entry)) (now («scratch_v» .entry))) (sourceOf width height (now («src_y» .entry)) (now («src_u» .entry)) (now («src_v» .entry)) «src_y_stride» «src_uv_stride»)) (paramsOutcome r) (planesOf (now («scratch_y» .exit)) (now («scratch_u» .exit)) (now («scratch_v» .exit))) ⌝ }
+    ensures { λ r. ⌜ Searched keyPass
+        (keySearch layout config
+        (keyLists (now (modes .entry)) (now (segments .entry)) (now (flags .entry)))
+        (planesOf (now (y .entry)) (now (u .entry)) (now (v .entry)))
+        (planesOf (now («scratch_y» .entry)) (now («scratch_u» .entry)) (now («scratch_v» .entry)))
+        (sourceOf width height (now («src_y» .entry)) (now («src_u» .entry)) (now («src_v» .entry)) «src_y_stride» «src_uv_stride»))
+        (paramsOutcome r)
+        (planesOf (now («scratch_y» .exit)) (now («scratch_u» .exit)) (now («scratch_v» .exit))) ⌝ }
 {
     let setup = Setup {
         layout: layout,
@@ -327,7 +365,14 @@ pub fn select_filter_params_inter<'s>(
     src_y_stride: usize,
     src_uv_stride: usize,
 ) -> ParamsAnswer
-    ensures { λ r. ⌜ Searched interPass (interSearch layout config (interLists (now (modes .entry)) (now (segments .entry)) (now (flags .entry)) (now (references .entry)) (now («inter_modes» .entry))) (planesOf (now (y .entry)) (now (u .entry)) (now (v .entry))) (planesOf (now («scratch_y» .entry)) (now («scratch_u» .entry)) (now («scratch_v» .entry))) (sourceOf width height (now («src_y» .entry)) (now («src_u» .entry)) (now («src_v» .entry)) «src_y_stride» «src_uv_stride»)) (paramsOutcome r) (planesOf (now («scratch_y» .exit)) (now («scratch_u» .exit)) (now («scratch_v» .exit))) ⌝ }
+    ensures { λ r. ⌜ Searched interPass
+        (interSearch layout config
+        (interLists (now (modes .entry)) (now (segments .entry)) (now (flags .entry)) (now (references .entry)) (now («inter_modes» .entry)))
+        (planesOf (now (y .entry)) (now (u .entry)) (now (v .entry)))
+        (planesOf (now («scratch_y» .entry)) (now («scratch_u» .entry)) (now («scratch_v» .entry)))
+        (sourceOf width height (now («src_y» .entry)) (now («src_u» .entry)) (now («src_v» .entry)) «src_y_stride» «src_uv_stride»))
+        (paramsOutcome r)
+        (planesOf (now («scratch_y» .exit)) (now («scratch_u» .exit)) (now («scratch_v» .exit))) ⌝ }
 {
     let setup = Setup {
         layout: layout,
@@ -377,8 +422,15 @@ pub fn select_filter_level<'s>(
     src_v: &'s [u8],
     src_y_stride: usize,
     src_uv_stride: usize,
-) -> LevelAnswer
-    ensures { λ r. ⌜ LevelSearched keyPass (keySearch layout config (keyLists (now (modes .entry)) (now (segments .entry)) (now (flags .entry))) (planesOf (now (y .entry)) (now (u .entry)) (now (v .entry))) (planesOf (now («scratch_y» .entry)) (now («scratch_u» .entry)) (now («scratch_v» .entry))) (sourceOf width height (now («src_y» .entry)) (now («src_u» .entry)) (now («src_v» .entry)) «src_y_stride» «src_uv_stride»)) (levelOutcome r) (planesOf (now («scratch_y» .exit)) (now («scratch_u» .exit)) (now («scratch_v» .exit))) ⌝ }
+) -> LevelOnlyAnswer
+    ensures { λ r. ⌜ LevelSearched keyPass
+        (keySearch layout config
+        (keyLists (now (modes .entry)) (now (segments .entry)) (now (flags .entry)))
+        (planesOf (now (y .entry)) (now (u .entry)) (now (v .entry)))
+        (planesOf (now («scratch_y» .entry)) (now («scratch_u» .entry)) (now («scratch_v» .entry)))
+        (sourceOf width height (now («src_y» .entry)) (now («src_u» .entry)) (now («src_v» .entry)) «src_y_stride» «src_uv_stride»))
+        (levelOnlyOutcome r)
+        (planesOf (now («scratch_y» .exit)) (now («scratch_u» .exit)) (now («scratch_v» .exit))) ⌝ }
 {
     let answer = select_filter_params(
         y,
@@ -425,8 +477,15 @@ pub fn select_filter_level_inter<'s>(
     src_v: &'s [u8],
     src_y_stride: usize,
     src_uv_stride: usize,
-) -> LevelAnswer
-    ensures { λ r. ⌜ LevelSearched interPass (interSearch layout config (interLists (now (modes .entry)) (now (segments .entry)) (now (flags .entry)) (now (references .entry)) (now («inter_modes» .entry))) (planesOf (now (y .entry)) (now (u .entry)) (now (v .entry))) (planesOf (now («scratch_y» .entry)) (now («scratch_u» .entry)) (now («scratch_v» .entry))) (sourceOf width height (now («src_y» .entry)) (now («src_u» .entry)) (now («src_v» .entry)) «src_y_stride» «src_uv_stride»)) (levelOutcome r) (planesOf (now («scratch_y» .exit)) (now («scratch_u» .exit)) (now («scratch_v» .exit))) ⌝ }
+) -> LevelOnlyAnswer
+    ensures { λ r. ⌜ LevelSearched interPass
+        (interSearch layout config
+        (interLists (now (modes .entry)) (now (segments .entry)) (now (flags .entry)) (now (references .entry)) (now («inter_modes» .entry)))
+        (planesOf (now (y .entry)) (now (u .entry)) (now (v .entry)))
+        (planesOf (now («scratch_y» .entry)) (now («scratch_u» .entry)) (now («scratch_v» .entry)))
+        (sourceOf width height (now («src_y» .entry)) (now («src_u» .entry)) (now («src_v» .entry)) «src_y_stride» «src_uv_stride»))
+        (levelOnlyOutcome r)
+        (planesOf (now («scratch_y» .exit)) (now («scratch_u» .exit)) (now («scratch_v» .exit))) ⌝ }
 {
     let answer = select_filter_params_inter(
         y,

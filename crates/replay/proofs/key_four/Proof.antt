@@ -50,19 +50,19 @@ use denote.Triple.Clauses.{ensured, lasts}
 use Rattle.levels.specs.declared.config.FrameFilterConfig.{FrameFilterConfig}
 use Rattle.levels.proofs.config.FrameFilterConfig as F
 use Rattle.levels.proofs.config.FrameFilterConfig.Laws as F′
-use Rattle.frame.specs.Answers.{Passed}
-use Rattle.frame.specs.Layout.{planesOf}
-use Rattle.frame.specs.Pass.{keyPass}
-use Rattle.frame.specs.PassCalls.{keyRecordsCall}
-use Rattle.frame.specs.declared.answers.PassAnswer.{PassAnswer}
-use Rattle.frame.specs.declared.layout.PlaneLayout.{PlaneLayout}
-use Rattle.frame.specs.declared.records.MacroblockModes.{MacroblockModes}
-use Rattle.frame.proofs.layout.PlaneLayout as G
-use Rattle.frame.proofs.layout.PlaneLayout.Laws as G′
-use Rattle.frame.proofs.records.MacroblockModes as T
-use Rattle.frame.proofs.records.MacroblockModes.Laws as T′
-use Rattle.frame.proofs.answers.PassAnswer as S
-use Rattle.frame.proofs.answers.PassAnswer.Laws as S′
+use Rattle.calls.specs.Answers.{Passed}
+use Rattle.planes.specs.Layout.{planesOf}
+use Rattle.calls.specs.Pass.{keyPass}
+use Rattle.calls.specs.PassCalls.{keyRecordsCall}
+use Rattle.calls.specs.declared.answers.PassAnswer.{PassAnswer}
+use Rattle.planes.specs.declared.layout.PlaneLayout.{PlaneLayout}
+use Rattle.calls.specs.declared.records.MacroblockModes.{MacroblockModes}
+use Rattle.planes.proofs.layout.PlaneLayout as G
+use Rattle.planes.proofs.layout.PlaneLayout.Laws as G′
+use Rattle.calls.proofs.records.MacroblockModes as T
+use Rattle.calls.proofs.records.MacroblockModes.Laws as T′
+use Rattle.calls.proofs.answers.PassAnswer as S
+use Rattle.calls.proofs.answers.PassAnswer.Laws as S′
 use Rattle.frame.proofs.record_pass.filter_frame_records as inner
 use Rattle.frame.proofs.record_pass.filter_frame_records.Symbol as inner-def
 use Rattle.frame.proofs.record_pass.filter_frame_records.Symbol.{name as #inner}

@@ -5,15 +5,15 @@ use mathlib.Core.Path.{ap, _∙_}
 use mathlib.Core.Bool.{cond}
 use mathlib.Core.List.{List}
 use Prim.Native.Nat.{ℕ}
-use Rattle.frame.specs.Edges.{vertical, horizontal}
-use Rattle.frame.specs.EdgeCode.{edgeFrom}
-use Rattle.frame.specs.Limits.{outerOf, innerOf}
-use Rattle.frame.specs.PlaneCode.{topFrom, chromaFrom}
+use Rattle.planes.specs.Edges.{vertical, horizontal}
+use Rattle.edges.specs.EdgeFrom.{edgeFrom}
+use Rattle.edges.specs.NormalKernels.{outerOf, innerOf}
+use Rattle.frame.specs.Private.PlaneEdges.{topFrom, chromaFrom}
 use Rattle.frame.proofs.normal.chroma.Statement.{statement}
 use Rattle.frame.proofs.normal.chroma.Tie as tie
 
-left-requires : tie.Need-left-requires
-left-requires c κs = search needs
+left8-requires : tie.Need-left8-requires
+left8-requires c κs = search needs
 
 inner-vertical8-requires : tie.Need-inner-vertical8-requires
 inner-vertical8-requires c κs = search needs
@@ -35,7 +35,7 @@ returns c =
     let j2 = j3 .before .before .before .before in
     let j1 = j2 .before .before .before .before in
     let x = j1 .before .before .before .args in
-    let e2 = j2 .inner-vertical8 .ensures ∙ ap (λ (m : List ℕ). cond (x .inside) (edgeFrom vertical (innerOf (x .limits)) (x .stride) (x .corner) 8 m) m) (j1 .left .ensures) in
+    let e2 = j2 .inner-vertical8 .ensures ∙ ap (λ (m : List ℕ). cond (x .inside) (edgeFrom vertical (innerOf (x .limits)) (x .stride) (x .corner) 8 m) m) (j1 .left8 .ensures) in
     let e3 = j3 .top8 .ensures ∙ ap (topFrom (outerOf (x .limits)) 4 8 (x .stride) (x .corner) (x .row)) e2 in
     j4 .inner-horizontal8 .ensures ∙ ap (λ (m : List ℕ). cond (x .inside) (edgeFrom horizontal (innerOf (x .limits)) (x .stride) (x .corner) 8 m) m) e3
 
@@ -43,7 +43,7 @@ pub chroma-spec : {M : Type 1} → statement M
 chroma-spec =
     tie.close
     (tie.spec
-    left-requires
+    left8-requires
     inner-vertical8-requires
     top8-requires
     inner-horizontal8-requires

@@ -4,44 +4,45 @@ use borrow.Author.Needs.{needs}
 use mathlib.Core.Path.{sym, ap, _∙_}
 use mathlib.Core.Bool.{Bool, cond}
 use Prim.Native.Nat.{_+_, _-_}
+use native.Mathlib.Omega.{arith}
 use lib.ListN.{length}
 use denote.Ref.{now}
-use Rattle.frame.specs.Edges.{vertical}
-use Rattle.frame.specs.EdgeCode.{edgeFrom}
-use Rattle.frame.specs.Limits.{innerOf}
-use Rattle.frame.specs.PlaneCode.{threeVertical}
+use Rattle.kernels.specs.Segment.{half, taps}
+use Rattle.edges.specs.NormalKernels.{innerOf}
+use Rattle.frame.specs.Private.PlaneEdges.{threeVertical}
+use Rattle.frame.proofs.EdgesWithin.{three-vertical-within}
 use Rattle.frame.proofs.normal.inner_vertical16.Statement.{statement}
 use Rattle.frame.proofs.normal.inner_vertical16.Tie as tie
 
-v-sub-requires : tie.Need-v-sub-requires
-v-sub-requires c κs = search needs
+subblock-edge16-requires : tie.Need-subblock-edge16-requires
+subblock-edge16-requires c κs = search needs
 
-add-v-sub : tie.Need-add-v-sub
-add-v-sub c = search needs
+add-subblock-edge16 : tie.Need-add-subblock-edge16
+add-subblock-edge16 c = search needs
 
-v-sub-requires-2 : tie.Need-v-sub-requires-2
-v-sub-requires-2 c κs = search needs
+subblock-edge16-requires-2 : tie.Need-subblock-edge16-requires-2
+subblock-edge16-requires-2 c κs = search needs
 
-add-v-sub-2 : tie.Need-add-v-sub-2
-add-v-sub-2 c = search needs
+add-subblock-edge16-2 : tie.Need-add-subblock-edge16-2
+add-subblock-edge16-2 c = search needs
 
-v-sub-requires-3 : tie.Need-v-sub-requires-3
-v-sub-requires-3 c κs = search needs
+subblock-edge16-requires-3 : tie.Need-subblock-edge16-requires-3
+subblock-edge16-requires-3 c κs = search needs
 
 same-length : tie.Need-same-length
 same-length c = search needs
 
 returns : tie.Need-returns
-unfolding threeVertical
+unfolding half taps
 returns c =
     let j3 = c .before .before in
     let j2 = j3 .before .before .before .before in
     let j1 = j2 .before .before .before .before in
     let t = j1 .before .before in
-    let x = t .before .before .args in
-    let e1 = j1 .v-sub .ensures in
-    let e2 = j2 .v-sub2 .ensures ∙ ap (edgeFrom vertical (innerOf (x .limits)) (x .stride) (x .corner + 4) 16) e1 in
-    j3 .v-sub3 .ensures ∙ ap (edgeFrom vertical (innerOf (x .limits)) (x .stride) (x .corner + 8) 16) e2 ∙ sym (ap (λ (u : Bool). cond u (threeVertical (innerOf (x .limits)) (x .stride) (x .corner) (now (x .plane))) (now (x .plane))) (t .if1 .taken))
+    let s = t .before .before in
+    let x = s .args in
+    three-vertical-within (innerOf (x .limits)) (x .stride) (x .corner) (now (x .plane)) _ _ _ (omega (arith, s .pre)) (j1 .subblock-edge16 .ensures) (j2 .subblock-edge162 .ensures) (j3 .subblock-edge163 .ensures)
+    ∙ sym (ap (λ (u : Bool). cond u (threeVertical (innerOf (x .limits)) (x .stride) (x .corner) (now (x .plane))) (now (x .plane))) (t .if1 .taken))
 
 returns-2 : tie.Need-returns-2
 returns-2 c = search needs
@@ -50,11 +51,11 @@ pub inner-vertical16-spec : {M : Type 1} → statement M
 inner-vertical16-spec =
     tie.close
     (tie.spec
-    v-sub-requires
-    add-v-sub
-    v-sub-requires-2
-    add-v-sub-2
-    v-sub-requires-3
+    subblock-edge16-requires
+    add-subblock-edge16
+    subblock-edge16-requires-2
+    add-subblock-edge16-2
+    subblock-edge16-requires-3
     same-length
     returns
     returns-2)

@@ -5,14 +5,14 @@ use mathlib.Core.Path.{ap, _∙_}
 use mathlib.Core.Bool.{cond}
 use mathlib.Core.List.{List}
 use Prim.Native.Nat.{ℕ}
-use Rattle.frame.specs.Edges.{vertical, horizontal}
-use Rattle.frame.specs.Limits.{outerOf, innerOf}
-use Rattle.frame.specs.PlaneCode.{topFrom, threeVertical, threeHorizontal, lumaFrom}
+use Rattle.planes.specs.Edges.{vertical, horizontal}
+use Rattle.edges.specs.NormalKernels.{outerOf, innerOf}
+use Rattle.frame.specs.Private.PlaneEdges.{topFrom, threeVertical, threeHorizontal, lumaFrom}
 use Rattle.frame.proofs.normal.luma.Statement.{statement}
 use Rattle.frame.proofs.normal.luma.Tie as tie
 
-left-requires : tie.Need-left-requires
-left-requires c κs = search needs
+left16-requires : tie.Need-left16-requires
+left16-requires c κs = search needs
 
 inner-vertical16-requires : tie.Need-inner-vertical16-requires
 inner-vertical16-requires c κs = search needs
@@ -34,7 +34,7 @@ returns c =
     let j2 = j3 .before .before .before .before in
     let j1 = j2 .before .before .before .before in
     let x = j1 .before .before .before .args in
-    let e2 = j2 .inner-vertical16 .ensures ∙ ap (λ (m : List ℕ). cond (x .inside) (threeVertical (innerOf (x .limits)) (x .stride) (x .corner) m) m) (j1 .left .ensures) in
+    let e2 = j2 .inner-vertical16 .ensures ∙ ap (λ (m : List ℕ). cond (x .inside) (threeVertical (innerOf (x .limits)) (x .stride) (x .corner) m) m) (j1 .left16 .ensures) in
     let e3 = j3 .top16 .ensures ∙ ap (topFrom (outerOf (x .limits)) 4 16 (x .stride) (x .corner) (x .row)) e2 in
     j4 .inner-horizontal16 .ensures ∙ ap (λ (m : List ℕ). cond (x .inside) (threeHorizontal (innerOf (x .limits)) (x .stride) (x .corner) m) m) e3
 
@@ -42,7 +42,7 @@ pub luma-spec : {M : Type 1} → statement M
 luma-spec =
     tie.close
     (tie.spec
-    left-requires
+    left16-requires
     inner-vertical16-requires
     top16-requires
     inner-horizontal16-requires

@@ -9,32 +9,37 @@ use lib.Dec.{ltb}
 use lib.ListN.{length}
 use denote.Ref.{now}
 use borrow.Author.Tests.{lt-ltb, le-ltb}
-use Rattle.frame.specs.Edges.{horizontal}
-use Rattle.frame.specs.EdgeCode.{edgeFrom}
-use Rattle.frame.specs.Limits.{outerOf}
-use Rattle.frame.specs.PlaneCode.{topFrom}
+use Rattle.kernels.specs.Segment.{half, taps}
+use Rattle.planes.specs.Edges.{horizontal}
+use Rattle.edges.specs.EdgeFrom.{edgeFrom}
+use Rattle.edges.specs.NormalKernels.{outerOf}
+use Rattle.frame.specs.Private.PlaneEdges.{topFrom}
+use Rattle.edges.proofs.EdgeRoom.{horizontal-within}
 use Rattle.frame.proofs.normal.top16.Statement.{statement}
 use Rattle.frame.proofs.normal.top16.Tie as tie
 
-mul-h-mb16 : tie.Need-mul-h-mb16
-mul-h-mb16 c = search needs
+mul-mb-edge16 : tie.Need-mul-mb-edge16
+mul-mb-edge16 c = search needs
 
-sub-h-mb16 : tie.Need-sub-h-mb16
-sub-h-mb16 c = omega (arith, c .before .before .before .pre .1 .1 (c .before .if1 .taken))
+sub-mb-edge16 : tie.Need-sub-mb-edge16
+sub-mb-edge16 c = omega (arith, c .before .before .before .pre .1 .1 (c .before .if1 .taken))
 
-h-mb16-requires : tie.Need-h-mb16-requires
-h-mb16-requires c κs = search needs
+mb-edge16-requires : tie.Need-mb-edge16-requires
+mb-edge16-requires c κs = search needs
 
 same-length : tie.Need-same-length
 same-length c = search needs
 
 returns : tie.Need-returns
-unfolding topFrom
+unfolding half taps topFrom
 returns c =
     let j = c .before .before in
     let t = j .before .before in
-    let x = t .before .before .args in
-    j .h-mb16 .ensures ∙ sym (ap (λ (u : Bool). cond u (edgeFrom horizontal (outerOf (x .limits)) (x .stride) (x .corner - 4 * x .stride) 16 (now (x .plane))) (now (x .plane))) (lt-ltb 0 (x .row) (t .if1 .taken)))
+    let s = t .before .before in
+    let x = s .args in
+    j .mb-edge16 .ensures
+    ∙ horizontal-within (outerOf (x .limits)) (x .stride) (x .corner - 4 * x .stride) 16 (now (x .plane)) (s .pre .1 .0) (omega (arith, s .pre .0, s .pre .1 .1 (t .if1 .taken)))
+    ∙ sym (ap (λ (u : Bool). cond u (edgeFrom horizontal (outerOf (x .limits)) (x .stride) (x .corner - 4 * x .stride) 16 (now (x .plane))) (now (x .plane))) (lt-ltb 0 (x .row) (t .if1 .taken)))
 
 returns-2 : tie.Need-returns-2
 unfolding topFrom
@@ -44,4 +49,4 @@ returns-2 c =
 
 pub top16-spec : {M : Type 1} → statement M
 top16-spec =
-    tie.close (tie.spec mul-h-mb16 sub-h-mb16 h-mb16-requires same-length returns returns-2)
+    tie.close (tie.spec mul-mb-edge16 sub-mb-edge16 mb-edge16-requires same-length returns returns-2)

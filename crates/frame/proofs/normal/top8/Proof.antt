@@ -9,32 +9,37 @@ use lib.Dec.{ltb}
 use lib.ListN.{length}
 use denote.Ref.{now}
 use borrow.Author.Tests.{lt-ltb, le-ltb}
-use Rattle.frame.specs.Edges.{horizontal}
-use Rattle.frame.specs.EdgeCode.{edgeFrom}
-use Rattle.frame.specs.Limits.{outerOf}
-use Rattle.frame.specs.PlaneCode.{topFrom}
+use Rattle.kernels.specs.Segment.{half, taps}
+use Rattle.planes.specs.Edges.{horizontal}
+use Rattle.edges.specs.EdgeFrom.{edgeFrom}
+use Rattle.edges.specs.NormalKernels.{outerOf}
+use Rattle.frame.specs.Private.PlaneEdges.{topFrom}
+use Rattle.edges.proofs.EdgeRoom.{horizontal-within}
 use Rattle.frame.proofs.normal.top8.Statement.{statement}
 use Rattle.frame.proofs.normal.top8.Tie as tie
 
-mul-h-mb8 : tie.Need-mul-h-mb8
-mul-h-mb8 c = search needs
+mul-mb-edge8 : tie.Need-mul-mb-edge8
+mul-mb-edge8 c = search needs
 
-sub-h-mb8 : tie.Need-sub-h-mb8
-sub-h-mb8 c = omega (arith, c .before .before .before .pre .1 .1 (c .before .if1 .taken))
+sub-mb-edge8 : tie.Need-sub-mb-edge8
+sub-mb-edge8 c = omega (arith, c .before .before .before .pre .1 .1 (c .before .if1 .taken))
 
-h-mb8-requires : tie.Need-h-mb8-requires
-h-mb8-requires c κs = search needs
+mb-edge8-requires : tie.Need-mb-edge8-requires
+mb-edge8-requires c κs = search needs
 
 same-length : tie.Need-same-length
 same-length c = search needs
 
 returns : tie.Need-returns
-unfolding topFrom
+unfolding half taps topFrom
 returns c =
     let j = c .before .before in
     let t = j .before .before in
-    let x = t .before .before .args in
-    j .h-mb8 .ensures ∙ sym (ap (λ (u : Bool). cond u (edgeFrom horizontal (outerOf (x .limits)) (x .stride) (x .corner - 4 * x .stride) 8 (now (x .plane))) (now (x .plane))) (lt-ltb 0 (x .row) (t .if1 .taken)))
+    let s = t .before .before in
+    let x = s .args in
+    j .mb-edge8 .ensures
+    ∙ horizontal-within (outerOf (x .limits)) (x .stride) (x .corner - 4 * x .stride) 8 (now (x .plane)) (s .pre .1 .0) (omega (arith, s .pre .0, s .pre .1 .1 (t .if1 .taken)))
+    ∙ sym (ap (λ (u : Bool). cond u (edgeFrom horizontal (outerOf (x .limits)) (x .stride) (x .corner - 4 * x .stride) 8 (now (x .plane))) (now (x .plane))) (lt-ltb 0 (x .row) (t .if1 .taken)))
 
 returns-2 : tie.Need-returns-2
 unfolding topFrom
@@ -43,4 +48,4 @@ returns-2 c =
     sym (ap (λ (u : Bool). cond u (edgeFrom horizontal (outerOf (x .limits)) (x .stride) (x .corner - 4 * x .stride) 8 (now (x .plane))) (now (x .plane))) (le-ltb 0 (x .row) (c .if1 .left)))
 
 pub top8-spec : {M : Type 1} → statement M
-top8-spec = tie.close (tie.spec mul-h-mb8 sub-h-mb8 h-mb8-requires same-length returns returns-2)
+top8-spec = tie.close (tie.spec mul-mb-edge8 sub-mb-edge8 mb-edge8-requires same-length returns returns-2)

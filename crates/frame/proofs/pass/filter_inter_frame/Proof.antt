@@ -1,36 +1,36 @@
 -- `frame::pass::filter_inter_frame` meets its contract. Assumes nothing.
 use denote.Ref.{now}
-use Rattle.frame.specs.Layout.{planesOf}
-use Rattle.frame.specs.Pass.{interPass}
-use Rattle.frame.specs.PassCalls.{interCall, interLists}
+use Rattle.planes.specs.Layout.{planesOf}
+use Rattle.calls.specs.Pass.{interPass}
+use Rattle.calls.specs.PassCalls.{interCall, interLists}
 use Rattle.frame.proofs.Passes.{inter-meets, inter-range, ends}
-use Rattle.frame.proofs.Plans.{Meets}
+use Rattle.judge.proofs.Judgement.{Meets}
 use borrow.Author.Needs.{needs}
 use Rattle.frame.proofs.pass.filter_inter_frame.Statement.{statement}
 use Rattle.frame.proofs.pass.filter_inter_frame.Tie as tie
 
--- what the planner's answer comes to
-meets : (c : tie.After-plan-pass) → let a = c .before .before .before .before .before .before .before .before .before .before .before .args in
-    Meets interPass (interCall (planesOf (now (a .y)) (now (a .u)) (now (a .v))) (a .layout) (interLists (now (a .modes)) (now (a .segments)) (now (a .flags)) (now (a .references)) (now (a .inter-modes))) (a .config) (a .start) (a .allowance)) (c .plan-pass .result)
+-- what the judge's answer comes to
+meets : (c : tie.After-judge-call) → let a = c .before .before .before .before .before .before .before .before .before .before .before .args in
+    Meets interPass (interCall (planesOf (now (a .y)) (now (a .u)) (now (a .v))) (a .layout) (interLists (now (a .modes)) (now (a .segments)) (now (a .flags)) (now (a .references)) (now (a .inter-modes))) (a .config) (a .start) (a .allowance)) (c .judge-call .result)
 meets c =
     let a = c .before .before .before .before .before .before .before .before .before .before .before .args in
-    inter-meets (a .layout) (planesOf (now (a .y)) (now (a .u)) (now (a .v))) (a .config) (a .start) (a .allowance) (c .plan-pass .result)
-    (interLists (now (a .modes)) (now (a .segments)) (now (a .flags)) (now (a .references)) (now (a .inter-modes))) _ _ (c .before .before .alike5 .ensures) (c .before .bad-entries .ensures) (c .plan-pass .ensures)
+    inter-meets (a .layout) (planesOf (now (a .y)) (now (a .u)) (now (a .v))) (a .config) (a .start) (a .allowance) (c .judge-call .result)
+    (interLists (now (a .modes)) (now (a .segments)) (now (a .flags)) (now (a .references)) (now (a .inter-modes))) _ _ (c .before .before .equal-lengths5 .ensures) (c .before .bad-entries .ensures) (c .judge-call .ensures)
 
-alike5-requires : tie.Need-alike5-requires
-alike5-requires c κs = search needs
+equal-lengths5-requires : tie.Need-equal-lengths5-requires
+equal-lengths5-requires c κs = search needs
 
 bad-entries-requires : tie.Need-bad-entries-requires
 bad-entries-requires c κs = search needs
 
-plan-pass-requires : tie.Need-plan-pass-requires
-plan-pass-requires c κs = search needs
+judge-call-requires : tie.Need-judge-call-requires
+judge-call-requires c κs = search needs
 
 filter-inter-range-requires : tie.Need-filter-inter-range-requires
 filter-inter-range-requires c κs =
     let q = c .before .before .before in
     let a = q .before .before .before .before .before .before .before .before .before .before .before .args in
-    inter-range (a .layout) (planesOf (now (a .y)) (now (a .u)) (now (a .v))) (a .config) (a .start) (a .allowance) (q .plan-pass .result) (interLists (now (a .modes)) (now (a .segments)) (now (a .flags)) (now (a .references)) (now (a .inter-modes))) (meets q)
+    inter-range (a .layout) (planesOf (now (a .y)) (now (a .u)) (now (a .v))) (a .config) (a .start) (a .allowance) (q .judge-call .result) (interLists (now (a .modes)) (now (a .segments)) (now (a .flags)) (now (a .references)) (now (a .inter-modes))) (meets q)
 
 same-length : tie.Need-same-length
 same-length c = search needs
@@ -51,9 +51,9 @@ pub filter-inter-frame-spec : {M : Type 1} → statement M
 filter-inter-frame-spec =
     tie.close
     (tie.spec
-    alike5-requires
+    equal-lengths5-requires
     bad-entries-requires
-    plan-pass-requires
+    judge-call-requires
     filter-inter-range-requires
     same-length
     same-length-2

@@ -5,14 +5,14 @@ use native.Mathlib.Nat.{le-refl}
 use native.Mathlib.Omega.{arith}
 use borrow.Author.Needs.{needs}
 use lib.ListN.{length}
-use Rattle.frame.specs.Entries.{keyEntry}
-use Rattle.frame.specs.Layout.{gridOf, planesOf}
-use Rattle.frame.specs.Pass.{keyPass, step}
-use Rattle.frame.specs.PassCalls.{keyLists}
-use Rattle.frame.specs.Steps.{steps}
-use Rattle.frame.proofs.EntryLaws.{key-plan}
+use Rattle.calls.specs.Entries.{keyEntry}
+use Rattle.planes.specs.Layout.{gridOf, planesOf}
+use Rattle.calls.specs.Pass.{keyPass, step}
+use Rattle.calls.specs.PassCalls.{keyLists}
+use Rattle.planes.specs.Steps.{steps}
+use Rattle.calls.proofs.EntryLaws.{key-plan}
 use Rattle.frame.proofs.Passes.{no-turn, one-turn}
-use Rattle.frame.proofs.Plans.{sound-kept}
+use Rattle.frame.proofs.Soundness.{sound-kept}
 use Rattle.frame.proofs.pass.filter_key_range.Statement.{statement}
 use Rattle.frame.proofs.pass.filter_key_range.Tie as tie
 

@@ -10,8 +10,8 @@ enum-told c = search needs
 enum-known-inter-mode : tie.Need-enum-known-inter-mode
 enum-known-inter-mode c = search needs
 
-way-byte-requires : tie.Need-way-byte-requires
-way-byte-requires c κs = search needs
+present-inter-mode-byte-requires : tie.Need-present-inter-mode-byte-requires
+present-inter-mode-byte-requires c κs = search needs
 
 returns : tie.Need-returns
 unfolding interModeByte
@@ -23,4 +23,4 @@ returns-2 c = search needs
 
 pub inter-mode-byte-spec : {M : Type 1} → statement M
 inter-mode-byte-spec =
-    tie.close (tie.spec enum-told enum-known-inter-mode way-byte-requires returns returns-2)
+    tie.close (tie.spec enum-told enum-known-inter-mode present-inter-mode-byte-requires returns returns-2)

@@ -1,7 +1,7 @@
 -- `frame::record_step::key_step` meets its contract. Assumes nothing.
 use borrow.Author.Needs.{needs}
 use denote.Ref.{now}
-use Rattle.frame.specs.Layout.{gridOf, planesOf}
+use Rattle.planes.specs.Layout.{gridOf, planesOf}
 use Rattle.frame.proofs.RecordLaws.{key-record-step}
 use Rattle.frame.proofs.record_step.key_step.Statement.{statement}
 use Rattle.frame.proofs.record_step.key_step.Tie as tie

@@ -10,8 +10,8 @@ enum-told c = search needs
 enum-known-reference : tie.Need-enum-known-reference
 enum-known-reference c = search needs
 
-frame-byte-requires : tie.Need-frame-byte-requires
-frame-byte-requires c κs = search needs
+present-reference-byte-requires : tie.Need-present-reference-byte-requires
+present-reference-byte-requires c κs = search needs
 
 returns : tie.Need-returns
 unfolding referenceByte
@@ -23,4 +23,4 @@ returns-2 c = search needs
 
 pub reference-byte-spec : {M : Type 1} → statement M
 reference-byte-spec =
-    tie.close (tie.spec enum-told enum-known-reference frame-byte-requires returns returns-2)
+    tie.close (tie.spec enum-told enum-known-reference present-reference-byte-requires returns returns-2)

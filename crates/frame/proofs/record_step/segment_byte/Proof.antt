@@ -1,6 +1,6 @@
 -- `frame::record_step::segment_byte` meets its contract. Assumes nothing.
 use borrow.Author.Needs.{needs}
-use Rattle.frame.specs.Entries.{segmentByte}
+use Rattle.calls.specs.Entries.{segmentByte}
 use Rattle.frame.proofs.record_step.segment_byte.Statement.{statement}
 use Rattle.frame.proofs.record_step.segment_byte.Tie as tie
 

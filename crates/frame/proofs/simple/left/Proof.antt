@@ -9,29 +9,33 @@ use lib.Dec.{ltb}
 use lib.ListN.{length}
 use denote.Ref.{now}
 use borrow.Author.Tests.{lt-ltb, le-ltb}
-use Rattle.frame.specs.Edges.{vertical}
-use Rattle.frame.specs.EdgeCode.{edgeFrom}
-use Rattle.kernels.specs.Segment.{simpleSegment}
-use Rattle.frame.specs.PlaneCode.{leftFrom}
+use Rattle.planes.specs.Edges.{vertical}
+use Rattle.edges.specs.EdgeFrom.{edgeFrom}
+use Rattle.kernels.specs.Segment.{simpleSegment, half, taps}
+use Rattle.frame.specs.Private.PlaneEdges.{leftFrom}
+use Rattle.edges.proofs.EdgeRoom.{vertical-within}
 use Rattle.frame.proofs.simple.left.Statement.{statement}
 use Rattle.frame.proofs.simple.left.Tie as tie
 
-sub-v-simple : tie.Need-sub-v-simple
-sub-v-simple c = omega (arith, c .before .before .before .pre .1 (c .before .if1 .taken))
+sub-simple-edge16 : tie.Need-sub-simple-edge16
+sub-simple-edge16 c = omega (arith, c .before .before .before .pre .1 (c .before .if1 .taken))
 
-v-simple-requires : tie.Need-v-simple-requires
-v-simple-requires c κs = search needs
+simple-edge16-requires : tie.Need-simple-edge16-requires
+simple-edge16-requires c κs = search needs
 
 same-length : tie.Need-same-length
 same-length c = search needs
 
 returns : tie.Need-returns
-unfolding leftFrom
+unfolding half taps leftFrom
 returns c =
     let j = c .before .before in
     let t = j .before .before in
-    let x = t .before .before .args in
-    j .v-simple .ensures ∙ sym (ap (λ (u : Bool). cond u (edgeFrom vertical (simpleSegment (x .edge)) (x .stride) (x .corner - 2) 16 (now (x .plane))) (now (x .plane))) (lt-ltb 0 (x .column) (t .if1 .taken)))
+    let s = t .before .before in
+    let x = s .args in
+    j .simple-edge16 .ensures
+    ∙ vertical-within (simpleSegment (x .edge)) (x .stride) (x .corner - 2) 16 (now (x .plane)) (omega (arith, s .pre .0, s .pre .1 (t .if1 .taken)))
+    ∙ sym (ap (λ (u : Bool). cond u (edgeFrom vertical (simpleSegment (x .edge)) (x .stride) (x .corner - 2) 16 (now (x .plane))) (now (x .plane))) (lt-ltb 0 (x .column) (t .if1 .taken)))
 
 returns-2 : tie.Need-returns-2
 unfolding leftFrom
@@ -40,4 +44,4 @@ returns-2 c =
     sym (ap (λ (u : Bool). cond u (edgeFrom vertical (simpleSegment (x .edge)) (x .stride) (x .corner - 2) 16 (now (x .plane))) (now (x .plane))) (le-ltb 0 (x .column) (c .if1 .left)))
 
 pub left-spec : {M : Type 1} → statement M
-left-spec = tie.close (tie.spec sub-v-simple v-simple-requires same-length returns returns-2)
+left-spec = tie.close (tie.spec sub-simple-edge16 simple-edge16-requires same-length returns returns-2)

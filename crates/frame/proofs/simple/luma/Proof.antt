@@ -6,8 +6,8 @@ use mathlib.Core.Bool.{cond}
 use mathlib.Core.List.{List}
 use Prim.Native.Nat.{ℕ, _+_, _*_}
 use Rattle.kernels.specs.Segment.{simpleSegment}
-use Rattle.frame.specs.Edges.{vertical, horizontal}
-use Rattle.frame.specs.PlaneCode.{topFrom, threeVertical, threeHorizontal, lumaFrom}
+use Rattle.planes.specs.Edges.{vertical, horizontal}
+use Rattle.frame.specs.Private.PlaneEdges.{topFrom, threeVertical, threeHorizontal, lumaFrom}
 use Rattle.frame.proofs.simple.luma.Statement.{statement}
 use Rattle.frame.proofs.simple.luma.Tie as tie
 

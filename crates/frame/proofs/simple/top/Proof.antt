@@ -9,32 +9,36 @@ use lib.Dec.{ltb}
 use lib.ListN.{length}
 use denote.Ref.{now}
 use borrow.Author.Tests.{lt-ltb, le-ltb}
-use Rattle.frame.specs.Edges.{horizontal}
-use Rattle.frame.specs.EdgeCode.{edgeFrom}
-use Rattle.kernels.specs.Segment.{simpleSegment}
-use Rattle.frame.specs.PlaneCode.{topFrom}
+use Rattle.planes.specs.Edges.{horizontal}
+use Rattle.edges.specs.EdgeFrom.{edgeFrom}
+use Rattle.kernels.specs.Segment.{simpleSegment, half, taps}
+use Rattle.frame.specs.Private.PlaneEdges.{topFrom}
+use Rattle.edges.proofs.EdgeRoom.{horizontal-within}
 use Rattle.frame.proofs.simple.top.Statement.{statement}
 use Rattle.frame.proofs.simple.top.Tie as tie
 
-mul-h-simple : tie.Need-mul-h-simple
-mul-h-simple c = search needs
+mul-simple-edge16 : tie.Need-mul-simple-edge16
+mul-simple-edge16 c = search needs
 
-sub-h-simple : tie.Need-sub-h-simple
-sub-h-simple c = omega (arith, c .before .before .before .pre .1 .1 (c .before .if1 .taken))
+sub-simple-edge16 : tie.Need-sub-simple-edge16
+sub-simple-edge16 c = omega (arith, c .before .before .before .pre .1 .1 (c .before .if1 .taken))
 
-h-simple-requires : tie.Need-h-simple-requires
-h-simple-requires c κs = search needs
+simple-edge16-requires : tie.Need-simple-edge16-requires
+simple-edge16-requires c κs = search needs
 
 same-length : tie.Need-same-length
 same-length c = search needs
 
 returns : tie.Need-returns
-unfolding topFrom
+unfolding half taps topFrom
 returns c =
     let j = c .before .before in
     let t = j .before .before in
-    let x = t .before .before .args in
-    j .h-simple .ensures ∙ sym (ap (λ (u : Bool). cond u (edgeFrom horizontal (simpleSegment (x .edge)) (x .stride) (x .corner - 2 * x .stride) 16 (now (x .plane))) (now (x .plane))) (lt-ltb 0 (x .row) (t .if1 .taken)))
+    let s = t .before .before in
+    let x = s .args in
+    j .simple-edge16 .ensures
+    ∙ horizontal-within (simpleSegment (x .edge)) (x .stride) (x .corner - 2 * x .stride) 16 (now (x .plane)) (s .pre .1 .0) (omega (arith, s .pre .0, s .pre .1 .1 (t .if1 .taken)))
+    ∙ sym (ap (λ (u : Bool). cond u (edgeFrom horizontal (simpleSegment (x .edge)) (x .stride) (x .corner - 2 * x .stride) 16 (now (x .plane))) (now (x .plane))) (lt-ltb 0 (x .row) (t .if1 .taken)))
 
 returns-2 : tie.Need-returns-2
 unfolding topFrom
@@ -44,4 +48,4 @@ returns-2 c =
 
 pub top-spec : {M : Type 1} → statement M
 top-spec =
-    tie.close (tie.spec mul-h-simple sub-h-simple h-simple-requires same-length returns returns-2)
+    tie.close (tie.spec mul-simple-edge16 sub-simple-edge16 simple-edge16-requires same-length returns returns-2)

@@ -7,13 +7,13 @@ use lib.ListN.{length}
 use lib.Dec.{eqb}
 use denote.Ref.{now}
 use Rattle.kernels.specs.declared.limits.LoopFilterParams.{LoopFilterParams}
-use Rattle.frame.specs.Layout.{gridOf, planesOf}
-use Rattle.frame.specs.Macroblock.{leave, filterMacroblock}
+use Rattle.planes.specs.Layout.{gridOf, planesOf}
+use Rattle.planes.specs.Macroblock.{leave, filterMacroblock}
 use borrow.Author.Tests.{eq-eqb, ne-eqb}
 use Rattle.kernels.specs.Limits.{derive}
-use Rattle.frame.specs.Pass.{planWith, planAt}
-use Rattle.frame.proofs.Parts.{macroblock-parts, leave-at}
-use Rattle.frame.specs.Edges.{places}
+use Rattle.calls.specs.Pass.{planWith, planAt}
+use Rattle.planes.proofs.StepParts.{macroblock-parts, leave-at}
+use Rattle.planes.specs.Edges.{places}
 use Rattle.frame.proofs.step.filter_macroblock.Statement.{statement}
 use Rattle.frame.proofs.step.filter_macroblock.Tie as tie
 

@@ -9,12 +9,12 @@ use native.Mathlib.Omega.{arith}
 use lib.ListN.{length}
 use denote.Ref.{now}
 use Rattle.kernels.specs.Segment.{half, simpleSegment}
-use Rattle.frame.specs.Layout.{gridOf, planesOf}
-use Rattle.frame.specs.Limits.{outerOf, innerOf}
-use Rattle.frame.specs.Macroblock.{filterMacroblock}
-use Rattle.frame.specs.Planes.{luma, chromaU, chromaV}
-use Rattle.frame.specs.Pass.{planWith}
-use Rattle.frame.proofs.Fits.{factor-positive}
+use Rattle.planes.specs.Layout.{gridOf, planesOf}
+use Rattle.edges.specs.NormalKernels.{outerOf, innerOf}
+use Rattle.planes.specs.Macroblock.{filterMacroblock}
+use Rattle.planes.specs.Planes.{luma, chromaU, chromaV}
+use Rattle.calls.specs.Pass.{planWith}
+use Rattle.planes.proofs.Fits.{factor-positive}
 use Rattle.frame.proofs.Squares.{square-of}
 use Rattle.frame.proofs.PlaneSteps.{normal-step, simple-step}
 use Rattle.frame.proofs.step.filter_with.Statement.{statement}

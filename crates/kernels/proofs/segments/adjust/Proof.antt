@@ -10,7 +10,7 @@ use mir.Val.{ofZ}
 use denote.Ref.{now}
 use Rattle.kernels.specs.Numbers.{u2s}
 use Rattle.kernels.specs.Kernels.{filterValue, adjustment, adjustedP0, adjustedQ0}
-use Rattle.kernels.specs.Windows.{atMost123, adjustedAt}
+use Rattle.kernels.specs.Private.Windows.{atMost123, adjustedAt}
 use Rattle.kernels.proofs.Ranges as R
 use Rattle.kernels.proofs.Cuts.{raised, lowered, gain-is, loss-is, most-in}
 use Rattle.kernels.proofs.segments.adjust.Statement.{statement}

@@ -2,7 +2,7 @@
 -- Assumes nothing.
 use borrow.Author.Needs.{needs}
 use mathlib.Core.Path.{sym, _∙_}
-use Rattle.kernels.specs.Windows.{softened}
+use Rattle.kernels.specs.Private.Windows.{softened}
 use Rattle.kernels.proofs.Windows.{taken, left}
 use Rattle.kernels.proofs.segments.soften.Statement.{statement}
 use Rattle.kernels.proofs.segments.soften.Tie as tie

@@ -2,7 +2,7 @@
 -- Assumes nothing.
 use borrow.Author.Needs.{needs}
 use mathlib.Core.Path.{sym, _∙_}
-use Rattle.kernels.specs.Windows.{widened}
+use Rattle.kernels.specs.Private.Windows.{widened}
 use Rattle.kernels.proofs.Windows.{taken, left}
 use Rattle.kernels.proofs.segments.widen.Statement.{statement}
 use Rattle.kernels.proofs.segments.widen.Tie as tie

@@ -9,7 +9,7 @@ use mir.Syntax.{w64}
 use mir.Val.{ofZ}
 use denote.Ref.{now}
 use Rattle.kernels.specs.Kernels.{wideValue}
-use Rattle.kernels.specs.Windows.{widenedSix}
+use Rattle.kernels.specs.Private.Windows.{widenedSix}
 use Rattle.kernels.proofs.Ranges as R
 use Rattle.kernels.proofs.Cuts.{raised, lowered, part-is}
 use Rattle.kernels.proofs.segments.widen_six.Statement.{statement}

@@ -6,7 +6,7 @@ use Prim.Native.Nat.{_+_}
 use lib.ListN.{set}
 use mir.Syntax.{w64}
 use denote.Ref.{now}
-use Rattle.kernels.specs.Windows.{cut}
+use Rattle.kernels.specs.Private.Windows.{cut}
 use Rattle.kernels.proofs.Ranges as R
 use Rattle.kernels.proofs.Cuts.{Plain, told, join, byte?, byte}
 use Rattle.kernels.proofs.store.cut6.Statement.{statement}

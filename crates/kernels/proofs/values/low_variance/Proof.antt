@@ -1,7 +1,7 @@
 -- `kernels::values::low_variance` meets its contract.
 -- Assumes nothing.
 use borrow.Author.Needs.{needs}
-use Rattle.kernels.specs.Windows.{lowVariance}
+use Rattle.kernels.specs.Private.Windows.{lowVariance}
 use Rattle.kernels.proofs.values.low_variance.Statement.{statement}
 use Rattle.kernels.proofs.values.low_variance.Tie as tie
 

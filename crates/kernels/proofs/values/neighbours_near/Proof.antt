@@ -1,7 +1,7 @@
 -- `kernels::values::neighbours_near` meets its contract.
 -- Assumes nothing.
 use borrow.Author.Needs.{needs}
-use Rattle.kernels.specs.Windows.{neighboursNear}
+use Rattle.kernels.specs.Private.Windows.{neighboursNear}
 use Rattle.kernels.proofs.values.neighbours_near.Statement.{statement}
 use Rattle.kernels.proofs.values.neighbours_near.Tie as tie
 

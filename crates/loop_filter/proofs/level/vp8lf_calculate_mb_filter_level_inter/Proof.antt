@@ -1,15 +1,16 @@
 -- `loop_filter::level::vp8lf_calculate_mb_filter_level_inter` meets its contract.
 -- Assumes nothing.
 use borrow.Author.Needs.{needs}
-use mathlib.Core.Path.{sym, ap, _∙_}
+use mathlib.Core.Path.{refl, sym, ap, _∙_}
 use Prim.Native.Nat.{ℕ}
 use denote.Ref.{now}
 use Rattle.kernels.specs.Answers.{Outcome, numberOf}
 use Rattle.levels.specs.Answers.{levelOutcome}
 use Rattle.levels.specs.Levels.{interAnswer}
 use Rattle.levels.specs.declared.config.FrameFilterConfig.{FrameFilterConfig}
-use Rattle.loop_filter.specs.Out.{outOf}
+use Rattle.loop_filter.specs.Returned.{outOf}
 use Rattle.loop_filter.proofs.Numbers16.{same-settings}
+use Rattle.loop_filter.proofs.Returns.{returned}
 use Rattle.loop_filter.proofs.level.vp8lf_calculate_mb_filter_level_inter.Statement.{
   statement,
 }
@@ -35,7 +36,7 @@ returns c =
     let x = s .before .args in
     let f = s .before .fits in
     let e = sym (ap levelOutcome (c .before .n .given .1)) ∙ k .calculate-mb-filter-level-inter .ensures ∙ ap (λ (q : FrameFilterConfig). interAnswer q (x .segment) (x .reference) (x .inter-mode) (x .mode)) (s .settings .ensures ∙ same-settings (x .simple) (x .key-frame) (x .loop-filter-level) (x .sharpness-level) (x .segmentation-enabled) (x .segment-abs) (x .segment-level-0) (x .segment-level-1) (x .segment-level-2) (x .segment-level-3) (x .delta-enabled) (x .ref-delta-current) (x .bpred-mode-delta) (x .ref-delta-last) (x .ref-delta-golden) (x .ref-delta-altref) (x .zero-mv-mode-delta) (x .other-mv-mode-delta) (x .split-mv-mode-delta) (f .segment-level-0) (f .segment-level-1) (f .segment-level-2) (f .segment-level-3) (f .ref-delta-current) (f .bpred-mode-delta) (f .ref-delta-last) (f .ref-delta-golden) (f .ref-delta-altref) (f .zero-mv-mode-delta) (f .other-mv-mode-delta) (f .split-mv-mode-delta)) in
-    (ap numberOf e, ap (λ (o : Outcome ℕ). outOf o (now (x .level))) e)
+    returned e (record { number = refl; out = refl })
 
 returns-2 : tie.Need-returns-2
 unfolding numberOf levelOutcome outOf
@@ -45,7 +46,7 @@ returns-2 c =
     let x = s .before .args in
     let f = s .before .fits in
     let e = sym (ap levelOutcome (c .enum-told .given .1)) ∙ k .calculate-mb-filter-level-inter .ensures ∙ ap (λ (q : FrameFilterConfig). interAnswer q (x .segment) (x .reference) (x .inter-mode) (x .mode)) (s .settings .ensures ∙ same-settings (x .simple) (x .key-frame) (x .loop-filter-level) (x .sharpness-level) (x .segmentation-enabled) (x .segment-abs) (x .segment-level-0) (x .segment-level-1) (x .segment-level-2) (x .segment-level-3) (x .delta-enabled) (x .ref-delta-current) (x .bpred-mode-delta) (x .ref-delta-last) (x .ref-delta-golden) (x .ref-delta-altref) (x .zero-mv-mode-delta) (x .other-mv-mode-delta) (x .split-mv-mode-delta) (f .segment-level-0) (f .segment-level-1) (f .segment-level-2) (f .segment-level-3) (f .ref-delta-current) (f .bpred-mode-delta) (f .ref-delta-last) (f .ref-delta-golden) (f .ref-delta-altref) (f .zero-mv-mode-delta) (f .other-mv-mode-delta) (f .split-mv-mode-delta)) in
-    (ap numberOf e, ap (λ (o : Outcome ℕ). outOf o (now (x .level))) e)
+    returned e (record { number = refl; out = refl })
 
 pub vp8lf-calculate-mb-filter-level-inter-spec : {M : Type 1} → statement M
 vp8lf-calculate-mb-filter-level-inter-spec =

@@ -1,16 +1,15 @@
 -- `loop_filter::passes::vp8lf_filter_inter_frame` meets its contract.
 -- Assumes nothing.
 use borrow.Author.Needs.{needs}
-use mathlib.Core.Path.{ap, _∙_}
+use mathlib.Core.Path.{_∙_}
 use denote.Ref.{now}
-use Rattle.kernels.specs.Answers.{Outcome, numberOf}
 use Rattle.levels.specs.declared.config.FrameFilterConfig.{FrameFilterConfig}
-use Rattle.frame.specs.Layout.{planesOf}
-use Rattle.frame.specs.Pass.{Progress, Call, interPass, answer, planesAfter}
-use Rattle.frame.specs.PassCalls.{interCall, interLists}
-use Rattle.loop_filter.specs.Out.{countOut, nextOut}
+use Rattle.planes.specs.Layout.{planesOf}
+use Rattle.calls.specs.Pass.{Call, interPass}
+use Rattle.calls.specs.PassCalls.{interCall, interLists}
 use Rattle.loop_filter.specs.Settings.{layoutOf}
 use Rattle.loop_filter.proofs.Numbers16.{same-settings}
+use Rattle.loop_filter.proofs.Returns.{passed}
 use Rattle.loop_filter.proofs.passes.vp8lf_filter_inter_frame.Statement.{statement}
 use Rattle.loop_filter.proofs.passes.vp8lf_filter_inter_frame.Tie as tie
 
@@ -20,8 +19,8 @@ settings-requires c κs = search needs
 filter-inter-frame-requires : tie.Need-filter-inter-frame-requires
 filter-inter-frame-requires c κs = search needs
 
-tell-requires : tie.Need-tell-requires
-tell-requires c κs = search needs
+put-progress-requires : tie.Need-put-progress-requires
+put-progress-requires c κs = search needs
 
 same-length : tie.Need-same-length
 same-length c = search needs
@@ -41,14 +40,7 @@ returns c =
     let f = z .fits in
     let call : FrameFilterConfig → Call interPass = λ q. interCall (planesOf (now (x .y)) (now (x .u)) (now (x .v))) (layoutOf (x .mb-cols) (x .mb-rows) (x .y-stride) (x .uv-stride)) (interLists (now (x .modes)) (now (x .segments)) (now (x .flags)) (now (x .references)) (now (x .inter-modes))) q (x .start) (x .allowance) in
     let same = s .settings .ensures ∙ same-settings (x .simple) (x .key-frame) (x .loop-filter-level) (x .sharpness-level) (x .segmentation-enabled) (x .segment-abs) (x .segment-level-0) (x .segment-level-1) (x .segment-level-2) (x .segment-level-3) (x .delta-enabled) (x .ref-delta-current) (x .bpred-mode-delta) (x .ref-delta-last) (x .ref-delta-golden) (x .ref-delta-altref) (x .zero-mv-mode-delta) (x .other-mv-mode-delta) (x .split-mv-mode-delta) (f .segment-level-0) (f .segment-level-1) (f .segment-level-2) (f .segment-level-3) (f .ref-delta-current) (f .bpred-mode-delta) (f .ref-delta-last) (f .ref-delta-golden) (f .ref-delta-altref) (f .zero-mv-mode-delta) (f .other-mv-mode-delta) (f .split-mv-mode-delta) in
-    let e = k .filter-inter-frame .ensures .0 ∙ ap (λ (q : FrameFilterConfig). answer interPass (call q)) same in
-    let t = c .tell .ensures in (
-      t .0 ∙ ap numberOf e,
-      (
-        k .filter-inter-frame .ensures .1 ∙ ap (λ (q : FrameFilterConfig). planesAfter interPass (call q)) same,
-        (t .1 .0 ∙ ap (λ (o : Outcome Progress). countOut o (now (x .count))) e, t .1 .1 ∙ ap (λ (o : Outcome Progress). nextOut o (now (x .next))) e),
-      ),
-    )
+    passed interPass call same (k .filter-inter-frame .ensures) (c .put-progress .ensures)
 
 pub vp8lf-filter-inter-frame-spec : {M : Type 1} → statement M
 vp8lf-filter-inter-frame-spec =
@@ -56,7 +48,7 @@ vp8lf-filter-inter-frame-spec =
     (tie.spec
     settings-requires
     filter-inter-frame-requires
-    tell-requires
+    put-progress-requires
     same-length
     same-length-2
     same-length-3

@@ -1,13 +1,14 @@
 -- `loop_filter::segments::vp8lf_common_adjust` meets its contract.
 -- Assumes nothing.
 use borrow.Author.Needs.{needs}
-use mathlib.Core.Path.{sym, ap, _∙_}
+use mathlib.Core.Path.{refl, sym, ap, _∙_}
 use lib.IntN.{ℤ}
 use mir.Syntax.{w32}
 use denote.Ref.{now}
 use Rattle.kernels.specs.Answers.{Outcome, numberOf, adjustOutcome}
 use Rattle.kernels.proofs.Ranges as R
-use Rattle.loop_filter.specs.Out.{outOf}
+use Rattle.loop_filter.specs.Returned.{outOf}
+use Rattle.loop_filter.proofs.Returns.{returned}
 use Rattle.loop_filter.proofs.segments.vp8lf_common_adjust.Statement.{statement}
 use Rattle.loop_filter.proofs.segments.vp8lf_common_adjust.Tie as tie
 
@@ -31,7 +32,7 @@ returns c =
     let k = m .common-adjust in
     let out = m .before .before .before .args .adjustment in
     let e = sym (ap adjustOutcome (h .1)) ∙ k .ensures .0 in
-    (ap numberOf e, (k .ensures .1, R.held {w = w32} {z = h .0 .0} (record { sfits = c .known-told .given .0 .1 }) .val ∙ ap (λ (o : Outcome ℤ). outOf o (now out)) e))
+    (returned e (record { number = refl; out = R.held {w = w32} {z = h .0 .0} (record { sfits = c .known-told .given .0 .1 }) .val }), k .ensures .1)
 
 same-length-2 : tie.Need-same-length-2
 same-length-2 c = search needs
@@ -43,7 +44,7 @@ returns-2 c =
     let k = m .common-adjust in
     let out = m .before .before .before .args .adjustment in
     let e = sym (ap adjustOutcome (c .enum-told .given .1)) ∙ k .ensures .0 in
-    (ap numberOf e, (k .ensures .1, ap (λ (o : Outcome ℤ). outOf o (now out)) e))
+    (returned e (record { number = refl; out = refl }), k .ensures .1)
 
 pub vp8lf-common-adjust-spec : {M : Type 1} → statement M
 vp8lf-common-adjust-spec =

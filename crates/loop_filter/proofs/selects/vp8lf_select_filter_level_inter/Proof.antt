@@ -1,18 +1,17 @@
 -- `loop_filter::selects::vp8lf_select_filter_level_inter` meets its contract.
 -- Assumes nothing.
 use borrow.Author.Needs.{needs}
-use mathlib.Core.Path.{ap, _∙_}
+use mathlib.Core.Path.{_∙_}
 use denote.Ref.{now}
-use Rattle.kernels.specs.Answers.{Outcome, numberOf}
 use Rattle.levels.specs.declared.config.FrameFilterConfig.{FrameFilterConfig}
-use Rattle.frame.specs.Layout.{planesOf}
-use Rattle.frame.specs.Pass.{interPass}
-use Rattle.frame.specs.PassCalls.{interLists}
-use Rattle.search.specs.Search.{LevelChoice, SearchCall, searchAnswer, levelOnly, scratchAfter, interSearch}
-use Rattle.search.specs.Source.{sourceOf}
-use Rattle.loop_filter.specs.SearchOut.{onlyLevelOut, onlyCountOut}
+use Rattle.planes.specs.Layout.{planesOf}
+use Rattle.calls.specs.Pass.{interPass}
+use Rattle.calls.specs.PassCalls.{interLists}
+use Rattle.search.specs.Search.{SearchCall, interSearch}
+use Rattle.sums.specs.Source.{sourceOf}
 use Rattle.loop_filter.specs.Settings.{layoutOf}
 use Rattle.loop_filter.proofs.Numbers16.{same-settings}
+use Rattle.loop_filter.proofs.Returns.{level-searched}
 use Rattle.loop_filter.proofs.selects.vp8lf_select_filter_level_inter.Statement.{statement}
 use Rattle.loop_filter.proofs.selects.vp8lf_select_filter_level_inter.Tie as tie
 
@@ -22,8 +21,8 @@ settings-requires c κs = search needs
 select-filter-level-inter-requires : tie.Need-select-filter-level-inter-requires
 select-filter-level-inter-requires c κs = search needs
 
-tell-level-requires : tie.Need-tell-level-requires
-tell-level-requires c κs = search needs
+put-level-requires : tie.Need-put-level-requires
+put-level-requires c κs = search needs
 
 same-length : tie.Need-same-length
 same-length c = search needs
@@ -43,9 +42,7 @@ returns c =
     let f = z .fits in
     let call : FrameFilterConfig → SearchCall interPass = λ q. interSearch (layoutOf (x .mb-cols) (x .mb-rows) (x .y-stride) (x .uv-stride)) q (interLists (now (x .modes)) (now (x .segments)) (now (x .flags)) (now (x .references)) (now (x .inter-modes))) (planesOf (now (x .y)) (now (x .u)) (now (x .v))) (planesOf (now (x .scratch-y)) (now (x .scratch-u)) (now (x .scratch-v))) (sourceOf (x .width) (x .height) (now (x .src-y)) (now (x .src-u)) (now (x .src-v)) (x .src-y-stride) (x .src-uv-stride)) in
     let same = s .settings .ensures ∙ same-settings (x .simple) (x .key-frame) (x .loop-filter-level) (x .sharpness-level) (x .segmentation-enabled) (x .segment-abs) (x .segment-level-0) (x .segment-level-1) (x .segment-level-2) (x .segment-level-3) (x .delta-enabled) (x .ref-delta-current) (x .bpred-mode-delta) (x .ref-delta-last) (x .ref-delta-golden) (x .ref-delta-altref) (x .zero-mv-mode-delta) (x .other-mv-mode-delta) (x .split-mv-mode-delta) (f .segment-level-0) (f .segment-level-1) (f .segment-level-2) (f .segment-level-3) (f .ref-delta-current) (f .bpred-mode-delta) (f .ref-delta-last) (f .ref-delta-golden) (f .ref-delta-altref) (f .zero-mv-mode-delta) (f .other-mv-mode-delta) (f .split-mv-mode-delta) in
-    let e = k .select-filter-level-inter .ensures .answer ∙ ap (λ (q : FrameFilterConfig). levelOnly (searchAnswer interPass (call q))) same in
-    let t = c .tell-level .ensures in
-    (t .0 ∙ ap numberOf e, (k .select-filter-level-inter .ensures .scratch ∙ ap (λ (q : FrameFilterConfig). scratchAfter interPass (call q)) same, (t .1 .0 ∙ ap (λ (o : Outcome LevelChoice). onlyLevelOut o (now (x .level))) e, t .1 .1 ∙ ap (λ (o : Outcome LevelChoice). onlyCountOut o (now (x .count))) e)))
+    level-searched interPass call same (k .select-filter-level-inter .ensures) (c .put-level .ensures)
 
 pub vp8lf-select-filter-level-inter-spec : {M : Type 1} → statement M
 vp8lf-select-filter-level-inter-spec =
@@ -53,7 +50,7 @@ vp8lf-select-filter-level-inter-spec =
     (tie.spec
     settings-requires
     select-filter-level-inter-requires
-    tell-level-requires
+    put-level-requires
     same-length
     same-length-2
     same-length-3

@@ -1,18 +1,17 @@
 -- `loop_filter::selects::vp8lf_select_filter_params` meets its contract.
 -- Assumes nothing.
 use borrow.Author.Needs.{needs}
-use mathlib.Core.Path.{ap, _∙_}
+use mathlib.Core.Path.{_∙_}
 use denote.Ref.{now}
-use Rattle.kernels.specs.Answers.{Outcome, numberOf}
 use Rattle.levels.specs.declared.config.FrameFilterConfig.{FrameFilterConfig}
-use Rattle.frame.specs.Layout.{planesOf}
-use Rattle.frame.specs.Pass.{keyPass}
-use Rattle.frame.specs.PassCalls.{keyLists}
-use Rattle.search.specs.Search.{Choice, SearchCall, searchAnswer, scratchAfter, keySearch}
-use Rattle.search.specs.Source.{sourceOf}
-use Rattle.loop_filter.specs.SearchOut.{levelOut, sharpnessOut, scoredOut}
+use Rattle.planes.specs.Layout.{planesOf}
+use Rattle.calls.specs.Pass.{keyPass}
+use Rattle.calls.specs.PassCalls.{keyLists}
+use Rattle.search.specs.Search.{SearchCall, keySearch}
+use Rattle.sums.specs.Source.{sourceOf}
 use Rattle.loop_filter.specs.Settings.{layoutOf}
 use Rattle.loop_filter.proofs.Numbers16.{same-settings}
+use Rattle.loop_filter.proofs.Returns.{searched}
 use Rattle.loop_filter.proofs.selects.vp8lf_select_filter_params.Statement.{statement}
 use Rattle.loop_filter.proofs.selects.vp8lf_select_filter_params.Tie as tie
 
@@ -22,8 +21,8 @@ settings-requires c κs = search needs
 select-filter-params-requires : tie.Need-select-filter-params-requires
 select-filter-params-requires c κs = search needs
 
-tell-params-requires : tie.Need-tell-params-requires
-tell-params-requires c κs = search needs
+put-choice-requires : tie.Need-put-choice-requires
+put-choice-requires c κs = search needs
 
 same-length : tie.Need-same-length
 same-length c = search needs
@@ -43,9 +42,7 @@ returns c =
     let f = z .fits in
     let call : FrameFilterConfig → SearchCall keyPass = λ q. keySearch (layoutOf (x .mb-cols) (x .mb-rows) (x .y-stride) (x .uv-stride)) q (keyLists (now (x .modes)) (now (x .segments)) (now (x .flags))) (planesOf (now (x .y)) (now (x .u)) (now (x .v))) (planesOf (now (x .scratch-y)) (now (x .scratch-u)) (now (x .scratch-v))) (sourceOf (x .width) (x .height) (now (x .src-y)) (now (x .src-u)) (now (x .src-v)) (x .src-y-stride) (x .src-uv-stride)) in
     let same = s .settings .ensures ∙ same-settings (x .simple) (x .key-frame) (x .loop-filter-level) (x .sharpness-level) (x .segmentation-enabled) (x .segment-abs) (x .segment-level-0) (x .segment-level-1) (x .segment-level-2) (x .segment-level-3) (x .delta-enabled) (x .ref-delta-current) (x .bpred-mode-delta) (x .ref-delta-last) (x .ref-delta-golden) (x .ref-delta-altref) (x .zero-mv-mode-delta) (x .other-mv-mode-delta) (x .split-mv-mode-delta) (f .segment-level-0) (f .segment-level-1) (f .segment-level-2) (f .segment-level-3) (f .ref-delta-current) (f .bpred-mode-delta) (f .ref-delta-last) (f .ref-delta-golden) (f .ref-delta-altref) (f .zero-mv-mode-delta) (f .other-mv-mode-delta) (f .split-mv-mode-delta) in
-    let e = k .select-filter-params .ensures .answer ∙ ap (λ (q : FrameFilterConfig). searchAnswer keyPass (call q)) same in
-    let t = c .tell-params .ensures in
-    (t .0 ∙ ap numberOf e, (k .select-filter-params .ensures .scratch ∙ ap (λ (q : FrameFilterConfig). scratchAfter keyPass (call q)) same, (t .1 .0 ∙ ap (λ (o : Outcome Choice). levelOut o (now (x .level))) e, (t .1 .1 .0 ∙ ap (λ (o : Outcome Choice). sharpnessOut o (now (x .sharpness))) e, t .1 .1 .1 ∙ ap (λ (o : Outcome Choice). scoredOut o (now (x .count))) e))))
+    searched keyPass call same (k .select-filter-params .ensures) (c .put-choice .ensures)
 
 pub vp8lf-select-filter-params-spec : {M : Type 1} → statement M
 vp8lf-select-filter-params-spec =
@@ -53,7 +50,7 @@ vp8lf-select-filter-params-spec =
     (tie.spec
     settings-requires
     select-filter-params-requires
-    tell-params-requires
+    put-choice-requires
     same-length
     same-length-2
     same-length-3

@@ -1,0 +1,11 @@
+-- What several proofs share.
+pub mod Tables
+pub mod TapNumbers
+pub mod TapPositions
+pub mod TapsFirst
+pub mod RowStores
+pub mod ArrayRows
+pub mod RunTurns
+pub mod RowRuns
+pub mod VerticalRows
+pub mod EdgeRoom

@@ -1,0 +1,70 @@
+-- `edges::horizontal::h_run16` meets its contract.
+-- Assumes nothing.
+use denote.Ref.{now}
+use native.Mathlib.Omega.{arith}
+use Prim.Native.Nat.{ℕ, _<_}
+use lib.ListN.{getD}
+use Rattle.edges.proofs.RowRuns.{taps-signed, either-signed, mb-either, sub-either}
+use borrow.Author.Needs.{needs}
+use Rattle.edges.proofs.horizontal.h_run16.Statement.{statement}
+use Rattle.edges.proofs.horizontal.h_run16.Tie as tie
+
+bytes : (c : tie.After-slice-known) (i : ℕ) → getD (now (c .before .args .plane)) i 0 < 256
+bytes c i = omega (arith, c .slice-known .given i)
+
+gather-rows16-requires : tie.Need-gather-rows16-requires
+gather-rows16-requires c κs = search needs
+
+normal-filter-run16-requires : tie.Need-normal-filter-run16-requires
+normal-filter-run16-requires c κs =
+    let x = c .before .before .before .args in
+    taps-signed (x .hev-threshold) (x .interior-limit) (x .edge-limit) 16 (x .stride) (x .at) (now (x .plane)) (bytes (c .before .before)) (c .gather-rows16 .result) (c .gather-rows16 .result) (c .gather-rows16 .ensures)
+
+scatter-six16-requires : tie.Need-scatter-six16-requires
+scatter-six16-requires c κs =
+    let x = c .before .before .before .before .before .before .args in
+    let r = c .before .before .normal-filter-run16 in
+    let g = c .before .before .before .gather-rows16 in
+    (search needs, either-signed (x .hev-threshold) (x .interior-limit) (x .edge-limit) 16 (x .stride) (x .at) (now (x .plane)) (bytes (c .before .before .before .before .before)) (g .result) (r .result) (g .ensures) (x .mb-edge) (r .ensures))
+
+scatter-four16-requires : tie.Need-scatter-four16-requires
+scatter-four16-requires c κs =
+    let x = c .before .before .before .before .before .before .args in
+    let r = c .before .before .normal-filter-run16 in
+    let g = c .before .before .before .gather-rows16 in
+    (search needs, either-signed (x .hev-threshold) (x .interior-limit) (x .edge-limit) 16 (x .stride) (x .at) (now (x .plane)) (bytes (c .before .before .before .before .before)) (g .result) (r .result) (g .ensures) (x .mb-edge) (r .ensures))
+
+same-length : tie.Need-same-length
+same-length c = search needs
+
+returns : tie.Need-returns
+returns c =
+    let s = c .before .before .before .before .before .before .before .before .before in
+    let x = s .args in
+    let r = c .before .before .before .before .before .normal-filter-run16 in
+    let g = c .before .before .before .before .before .before .gather-rows16 in
+    mb-either (x .hev-threshold) (x .interior-limit) (x .edge-limit) 16 (x .stride) (x .at) (now (x .plane)) (bytes (c .before .before .before .before .before .before .before .before)) (g .result) (r .result) (g .ensures) (x .mb-edge) (c .before .before .before .before .if1 .taken) (s .pre .1) (r .ensures) _ (c .before .before .scatter-six16 .ensures)
+
+same-length-2 : tie.Need-same-length-2
+same-length-2 c = search needs
+
+returns-2 : tie.Need-returns-2
+returns-2 c =
+    let s = c .before .before .before .before .before .before .before .before .before in
+    let x = s .args in
+    let r = c .before .before .before .before .before .normal-filter-run16 in
+    let g = c .before .before .before .before .before .before .gather-rows16 in
+    sub-either (x .hev-threshold) (x .interior-limit) (x .edge-limit) 16 (x .stride) (x .at) (now (x .plane)) (bytes (c .before .before .before .before .before .before .before .before)) (g .result) (r .result) (g .ensures) (x .mb-edge) (c .before .before .before .before .if1 .left) (s .pre .1) (r .ensures) _ (c .before .before .scatter-four16 .ensures)
+
+pub h-run16-spec : {M : Type 1} → statement M
+h-run16-spec =
+    tie.close
+    (tie.spec
+    gather-rows16-requires
+    normal-filter-run16-requires
+    scatter-six16-requires
+    scatter-four16-requires
+    same-length
+    returns
+    same-length-2
+    returns-2)

@@ -1,0 +1,38 @@
+-- `edges::horizontal::mb_edge8` meets its contract.
+-- Assumes nothing.
+use borrow.Author.Needs.{needs}
+use mathlib.Core.Path.{sym, _∙_}
+use Prim.Native.Nat.{_+_, _*_}
+use lib.ListN.{length}
+use denote.Ref.{now}
+use Rattle.kernels.specs.Segment.{half, taps}
+use Rattle.kernels.proofs.Windows.{taken, left}
+use Rattle.edges.specs.EdgeFrom.{edgeFits, edgeWithin}
+use Rattle.edges.proofs.EdgeRoom.{both-pass}
+use Rattle.edges.proofs.horizontal.mb_edge8.Statement.{statement}
+use Rattle.edges.proofs.horizontal.mb_edge8.Tie as tie
+
+has-rows-requires : tie.Need-has-rows-requires
+has-rows-requires c κs = search needs
+
+h-run8-requires : tie.Need-h-run8-requires
+h-run8-requires c κs =
+    let x = c .before .before .before .before .args in
+    both-pass 8 (x .stride) (x .at + 7 * x .stride + 8) (length (now (x .plane))) (c .before .before .has-rows .ensures) (c .before .if1 .taken)
+
+same-length : tie.Need-same-length
+same-length c = search needs
+
+returns : tie.Need-returns
+unfolding half taps edgeFits edgeWithin
+returns c =
+    let j = c .before .before in
+    let t = j .before .before in
+    j .h-run8 .ensures ∙ sym (taken _ _ (t .before .has-rows .ensures) (t .if1 .taken))
+
+returns-2 : tie.Need-returns-2
+unfolding half taps edgeFits edgeWithin
+returns-2 c = sym (left _ _ (c .before .has-rows .ensures) (c .if1 .left))
+
+pub mb-edge8-spec : {M : Type 1} → statement M
+mb-edge8-spec = tie.close (tie.spec has-rows-requires h-run8-requires same-length returns returns-2)

@@ -1,0 +1,487 @@
+// RFC 6386, sections 15.2 and 15.3: the kernels on rows of taps, by value. Taps lie in -128..127, and no step branches on them.
+ghost use mathlib.Core.Path.{_≡_};
+ghost use mathlib.Core.Bool.{true, cond};
+ghost use Prim.Native.Nat.{_<_, _≤_, max};
+ghost use lib.Dec.{leb};
+ghost use lib.IntN.{pos, _+ℤ_, _-ℤ_};
+ghost use lib.Signed.{mag};
+ghost use Rattle.kernels.specs.Numbers as num;
+ghost use Rattle.kernels.specs.Kernels as kern;
+ghost use Rattle.kernels.specs.Kernels.{apart, edgeValue, filterValue, filterYes, hev, gainOf, lossOf};
+ghost use Rattle.kernels.specs.Segment.{simpleSegment, subblockFilter, mbFilter};
+ghost use Rattle.edges.specs.Private.Runs as spec;
+ghost use Rattle.edges.specs.Private.Runs.{SignedRows, SignedEight, SignedFour, innerTaps, edgeTaps, normalKernel, runOfEight, runOfFour};
+
+// The limits of a normal edge.
+struct EdgeLimits {
+    threshold: u8,
+    interior: u8,
+    limit: u8,
+}
+
+// The six inner taps of a segment p3 .. q3.
+struct InnerTaps {
+    p2: i16,
+    p1: i16,
+    p0: i16,
+    q0: i16,
+    q1: i16,
+    q2: i16,
+}
+
+// The two inner taps of a segment p1 p0 q0 q1.
+struct EdgeTaps {
+    p0: i16,
+    q0: i16,
+}
+
+fn pick(yes: bool, a: i16, b: i16) -> i16
+    ensures { λ r. ⌜ r ≡ cond yes a b ⌝ }
+{
+    if yes { a } else { b }
+}
+
+fn larger(a: i16, b: i16) -> i16
+    ensures { λ r. ⌜ r ≡ spec.larger a b ⌝ }
+{
+    if a < b { b } else { a }
+}
+
+// c: limits to -128..127.
+fn clamp(v: i16) -> i16
+    ensures { λ r. ⌜ r ≡ num.clamp v ⌝ }
+{
+    if v < -128 {
+        -128
+    } else if v < 128 {
+        v
+    } else {
+        127
+    }
+}
+
+// The sums a + 4 and a + 3 then need no clamp for their shift by 3.
+fn at_most_123(a: i16) -> i16
+    ensures { λ r. ⌜ r ≡ spec.atMost123 a ⌝ }
+{
+    if a < 124 { a } else { 123 }
+}
+
+// |a - b|.
+fn distance(a: i16, b: i16) -> i16
+    requires { ⌜ mag a < 128 ⌝ }
+    requires { ⌜ mag b < 128 ⌝ }
+    ensures { λ r. ⌜ r ≡ pos (apart a b) ⌝ }
+{
+    let d = a - b;
+    if d < 0 { 0 - d } else { d }
+}
+
+// 2 * |p0 - q0| + |p1 - q1| / 2 <= edge, with both sides doubled and the remainder let pass.
+fn edge_yes(edge: u8, p1: i16, p0: i16, q0: i16, q1: i16) -> bool
+    requires { ⌜ SignedFour p1 p0 q0 q1 ⌝ }
+    ensures { λ r. ⌜ r ≡ leb (edgeValue p1 p0 q0 q1) edge ⌝ }
+{
+    4 * distance(p0, q0) + distance(p1, q1) <= 2 * (edge as i16) + 1
+}
+
+// The larger of the two differences that tell high variance.
+fn variance(p1: i16, p0: i16, q0: i16, q1: i16) -> i16
+    requires { ⌜ SignedFour p1 p0 q0 q1 ⌝ }
+    ensures { λ r. ⌜ r ≡ pos (max (apart p1 p0) (apart q1 q0)) ⌝ }
+{
+    larger(distance(p1, p0), distance(q1, q0))
+}
+
+// The largest of the four neighbour differences away from the edge.
+fn roughness(p3: i16, p2: i16, p1: i16, q1: i16, q2: i16, q3: i16) -> i16
+    requires { ⌜ SignedFour p3 p2 p1 q1 ⌝ }
+    requires { ⌜ mag q2 < 128 ⌝ }
+    requires { ⌜ mag q3 < 128 ⌝ }
+    ensures { λ r. ⌜ r ≡ pos (max (max (apart p3 p2) (apart p2 p1)) (max (apart q3 q2) (apart q2 q1))) ⌝ }
+{
+    larger(
+        larger(distance(p3, p2), distance(p2, p1)),
+        larger(distance(q3, q2), distance(q2, q1)),
+    )
+}
+
+// filter_yes: one maximum stands for six comparisons.
+fn normal_yes(
+    interior: u8,
+    edge: u8,
+    p3: i16,
+    p2: i16,
+    p1: i16,
+    p0: i16,
+    q0: i16,
+    q1: i16,
+    q2: i16,
+    q3: i16,
+) -> bool
+    requires { ⌜ SignedEight p3 p2 p1 p0 q0 q1 q2 q3 ⌝ }
+    ensures { λ r. ⌜ r ≡ filterYes interior edge p3 p2 p1 p0 q0 q1 q2 q3 ⌝ }
+{
+    let most = larger(roughness(p3, p2, p1, q1, q2, q3), variance(p1, p0, q0, q1));
+    edge_yes(edge, p1, p0, q0, q1) & (most <= interior as i16)
+}
+
+// hev.
+fn high_variance(threshold: u8, p1: i16, p0: i16, q0: i16, q1: i16) -> bool
+    requires { ⌜ SignedFour p1 p0 q0 q1 ⌝ }
+    ensures { λ r. ⌜ r ≡ hev threshold p1 p0 q0 q1 ⌝ }
+{
+    variance(p1, p0, q0, q1) > threshold as i16
+}
+
+// a of common_adjust, before it is divided.
+fn filter_value(outer: bool, p1: i16, p0: i16, q0: i16, q1: i16) -> i16
+    requires { ⌜ SignedFour p1 p0 q0 q1 ⌝ }
+    ensures { λ r. ⌜ r ≡ filterValue outer p1 p0 q0 q1 ⌝ }
+{
+    clamp(pick(outer, clamp(p1 - q1), 0) + 3 * (q0 - p0))
+}
+
+fn gain(a: i16) -> i16
+    requires { ⌜ mag a < 128 ⌝ }
+    ensures { λ r. ⌜ r ≡ gainOf a ⌝ }
+{
+    (at_most_123(a) + 3) >> 3
+}
+
+fn loss(a: i16) -> i16
+    requires { ⌜ mag a < 128 ⌝ }
+    ensures { λ r. ⌜ r ≡ lossOf a ⌝ }
+{
+    (at_most_123(a) + 4) >> 3
+}
+
+// (k * w + 63) >> 7, which needs no clamp.
+fn part(k: u8, w: i16) -> i16
+    requires { ⌜ k ≤ 27 ⌝ }
+    requires { ⌜ mag w < 128 ⌝ }
+    ensures { λ r. ⌜ r ≡ kern.part k w ⌝ }
+{
+    (k as i16 * w + 63) >> 7
+}
+
+// The tap p after it gains a.
+fn raised(p: i16, a: i16) -> i16
+    requires { ⌜ mag p < 128 ⌝ }
+    requires { ⌜ mag a < 256 ⌝ }
+    ensures { λ r. ⌜ r ≡ num.clamp (p +ℤ a) ⌝ }
+{
+    clamp(p + a)
+}
+
+// The tap q after it loses a.
+fn lowered(q: i16, a: i16) -> i16
+    requires { ⌜ mag q < 128 ⌝ }
+    requires { ⌜ mag a < 256 ⌝ }
+    ensures { λ r. ⌜ r ≡ num.clamp (q -ℤ a) ⌝ }
+{
+    clamp(q - a)
+}
+
+// mb_filter after its tests: w is 0 where nothing changes.
+fn widened(high: bool, w: i16, p2: i16, p1: i16, p0: i16, q0: i16, q1: i16, q2: i16) -> InnerTaps
+    requires { ⌜ mag w < 128 ⌝ }
+    requires { ⌜ SignedFour p2 p1 p0 q0 ⌝ }
+    requires { ⌜ mag q1 < 128 ⌝ }
+    requires { ⌜ mag q2 < 128 ⌝ }
+    ensures { λ r. ⌜ r ≡ spec.widenedTaps high w p2 p1 p0 q0 q1 q2 ⌝ }
+{
+    let wide = pick(high, 0, w);
+    let near = pick(high, w, 0);
+    let a0 = part(27, wide);
+    let a1 = part(18, wide);
+    let a2 = part(9, wide);
+    let up = a0 + gain(near);
+    let down = a0 + loss(near);
+    InnerTaps {
+        p2: raised(p2, a2),
+        p1: raised(p1, a1),
+        p0: raised(p0, up),
+        q0: lowered(q0, down),
+        q1: lowered(q1, a1),
+        q2: lowered(q2, a2),
+    }
+}
+
+// subblock_filter after its tests: a is 0 where nothing changes.
+fn softened(high: bool, a: i16, p2: i16, p1: i16, p0: i16, q0: i16, q1: i16, q2: i16) -> InnerTaps
+    requires { ⌜ mag a < 128 ⌝ }
+    requires { ⌜ SignedFour p1 p0 q0 q1 ⌝ }
+    ensures { λ r. ⌜ r ≡ spec.softenedTaps high a p2 p1 p0 q0 q1 q2 ⌝ }
+{
+    let down = loss(a);
+    let outer = pick(high, 0, (down + 1) >> 1);
+    InnerTaps {
+        p2: p2,
+        p1: raised(p1, outer),
+        p0: raised(p0, gain(a)),
+        q0: lowered(q0, down),
+        q1: lowered(q1, outer),
+        q2: q2,
+    }
+}
+
+fn mb_position(
+    edge: EdgeLimits,
+    p3: i16,
+    p2: i16,
+    p1: i16,
+    p0: i16,
+    q0: i16,
+    q1: i16,
+    q2: i16,
+    q3: i16,
+) -> InnerTaps
+    requires { ⌜ SignedEight p3 p2 p1 p0 q0 q1 q2 q3 ⌝ }
+    ensures { λ r. ⌜ r ≡ innerTaps (mbFilter (edge .threshold) (edge .interior) (edge .limit)) p3 p2 p1 p0 q0 q1 q2 q3 ⌝ }
+{
+    let yes = normal_yes(edge.interior, edge.limit, p3, p2, p1, p0, q0, q1, q2, q3);
+    let high = high_variance(edge.threshold, p1, p0, q0, q1);
+    let a = pick(yes, filter_value(true, p1, p0, q0, q1), 0);
+    widened(high, a, p2, p1, p0, q0, q1, q2)
+}
+
+fn sub_position(
+    edge: EdgeLimits,
+    p3: i16,
+    p2: i16,
+    p1: i16,
+    p0: i16,
+    q0: i16,
+    q1: i16,
+    q2: i16,
+    q3: i16,
+) -> InnerTaps
+    requires { ⌜ SignedEight p3 p2 p1 p0 q0 q1 q2 q3 ⌝ }
+    ensures { λ r. ⌜ r ≡ innerTaps (subblockFilter (edge .threshold) (edge .interior) (edge .limit)) p3 p2 p1 p0 q0 q1 q2 q3 ⌝ }
+{
+    let yes = normal_yes(edge.interior, edge.limit, p3, p2, p1, p0, q0, q1, q2, q3);
+    let high = high_variance(edge.threshold, p1, p0, q0, q1);
+    let a = pick(yes, filter_value(high, p1, p0, q0, q1), 0);
+    softened(high, a, p2, p1, p0, q0, q1, q2)
+}
+
+fn simple_position(edge: u8, p1: i16, p0: i16, q0: i16, q1: i16) -> EdgeTaps
+    requires { ⌜ SignedFour p1 p0 q0 q1 ⌝ }
+    ensures { λ r. ⌜ r ≡ edgeTaps (simpleSegment edge) p1 p0 q0 q1 ⌝ }
+{
+    let yes = edge_yes(edge, p1, p0, q0, q1);
+    let a = pick(yes, filter_value(true, p1, p0, q0, q1), 0);
+    EdgeTaps {
+        p0: raised(p0, gain(a)),
+        q0: lowered(q0, loss(a)),
+    }
+}
+
+fn mb_run16(taps: [[i16; 16]; 8], edge: EdgeLimits) -> [[i16; 16]; 8]
+    requires { ⌜ SignedRows 8 16 taps ⌝ }
+    ensures { λ r. ⌜ r ≡ runOfEight (mbFilter (edge .threshold) (edge .interior) (edge .limit)) 16 taps ⌝ }
+{
+    let r0 = taps[0];
+    let r1 = taps[1];
+    let r2 = taps[2];
+    let r3 = taps[3];
+    let r4 = taps[4];
+    let r5 = taps[5];
+    let r6 = taps[6];
+    let r7 = taps[7];
+    let mut o1 = r1;
+    let mut o2 = r2;
+    let mut o3 = r3;
+    let mut o4 = r4;
+    let mut o5 = r5;
+    let mut o6 = r6;
+    for n in 0..16 {
+        let s = mb_position(edge, r0[n], r1[n], r2[n], r3[n], r4[n], r5[n], r6[n], r7[n]);
+        let v1 = s.p2;
+        let v2 = s.p1;
+        let v3 = s.p0;
+        let v4 = s.q0;
+        let v5 = s.q1;
+        let v6 = s.q2;
+        o1[n] = v1;
+        o2[n] = v2;
+        o3[n] = v3;
+        o4[n] = v4;
+        o5[n] = v5;
+        o6[n] = v6;
+    }
+    [r0, o1, o2, o3, o4, o5, o6, r7]
+}
+
+fn mb_run8(taps: [[i16; 8]; 8], edge: EdgeLimits) -> [[i16; 8]; 8]
+    requires { ⌜ SignedRows 8 8 taps ⌝ }
+    ensures { λ r. ⌜ r ≡ runOfEight (mbFilter (edge .threshold) (edge .interior) (edge .limit)) 8 taps ⌝ }
+{
+    let r0 = taps[0];
+    let r1 = taps[1];
+    let r2 = taps[2];
+    let r3 = taps[3];
+    let r4 = taps[4];
+    let r5 = taps[5];
+    let r6 = taps[6];
+    let r7 = taps[7];
+    let mut o1 = r1;
+    let mut o2 = r2;
+    let mut o3 = r3;
+    let mut o4 = r4;
+    let mut o5 = r5;
+    let mut o6 = r6;
+    for n in 0..8 {
+        let s = mb_position(edge, r0[n], r1[n], r2[n], r3[n], r4[n], r5[n], r6[n], r7[n]);
+        let v1 = s.p2;
+        let v2 = s.p1;
+        let v3 = s.p0;
+        let v4 = s.q0;
+        let v5 = s.q1;
+        let v6 = s.q2;
+        o1[n] = v1;
+        o2[n] = v2;
+        o3[n] = v3;
+        o4[n] = v4;
+        o5[n] = v5;
+        o6[n] = v6;
+    }
+    [r0, o1, o2, o3, o4, o5, o6, r7]
+}
+
+fn sub_run16(taps: [[i16; 16]; 8], edge: EdgeLimits) -> [[i16; 16]; 8]
+    requires { ⌜ SignedRows 8 16 taps ⌝ }
+    ensures { λ r. ⌜ r ≡ runOfEight (subblockFilter (edge .threshold) (edge .interior) (edge .limit)) 16 taps ⌝ }
+{
+    let r0 = taps[0];
+    let r1 = taps[1];
+    let r2 = taps[2];
+    let r3 = taps[3];
+    let r4 = taps[4];
+    let r5 = taps[5];
+    let r6 = taps[6];
+    let r7 = taps[7];
+    let mut o1 = r1;
+    let mut o2 = r2;
+    let mut o3 = r3;
+    let mut o4 = r4;
+    let mut o5 = r5;
+    let mut o6 = r6;
+    for n in 0..16 {
+        let s = sub_position(edge, r0[n], r1[n], r2[n], r3[n], r4[n], r5[n], r6[n], r7[n]);
+        let v1 = s.p2;
+        let v2 = s.p1;
+        let v3 = s.p0;
+        let v4 = s.q0;
+        let v5 = s.q1;
+        let v6 = s.q2;
+        o1[n] = v1;
+        o2[n] = v2;
+        o3[n] = v3;
+        o4[n] = v4;
+        o5[n] = v5;
+        o6[n] = v6;
+    }
+    [r0, o1, o2, o3, o4, o5, o6, r7]
+}
+
+fn sub_run8(taps: [[i16; 8]; 8], edge: EdgeLimits) -> [[i16; 8]; 8]
+    requires { ⌜ SignedRows 8 8 taps ⌝ }
+    ensures { λ r. ⌜ r ≡ runOfEight (subblockFilter (edge .threshold) (edge .interior) (edge .limit)) 8 taps ⌝ }
+{
+    let r0 = taps[0];
+    let r1 = taps[1];
+    let r2 = taps[2];
+    let r3 = taps[3];
+    let r4 = taps[4];
+    let r5 = taps[5];
+    let r6 = taps[6];
+    let r7 = taps[7];
+    let mut o1 = r1;
+    let mut o2 = r2;
+    let mut o3 = r3;
+    let mut o4 = r4;
+    let mut o5 = r5;
+    let mut o6 = r6;
+    for n in 0..8 {
+        let s = sub_position(edge, r0[n], r1[n], r2[n], r3[n], r4[n], r5[n], r6[n], r7[n]);
+        let v1 = s.p2;
+        let v2 = s.p1;
+        let v3 = s.p0;
+        let v4 = s.q0;
+        let v5 = s.q1;
+        let v6 = s.q2;
+        o1[n] = v1;
+        o2[n] = v2;
+        o3[n] = v3;
+        o4[n] = v4;
+        o5[n] = v5;
+        o6[n] = v6;
+    }
+    [r0, o1, o2, o3, o4, o5, o6, r7]
+}
+
+pub(crate) fn normal_filter_run16(
+    taps: [[i16; 16]; 8],
+    hev_threshold: u8,
+    interior_limit: u8,
+    edge_limit: u8,
+    mb_edge: bool,
+) -> [[i16; 16]; 8]
+    requires { ⌜ SignedRows 8 16 taps ⌝ }
+    ensures { λ r. ⌜ r ≡ runOfEight (normalKernel «mb_edge» «hev_threshold» «interior_limit» «edge_limit») 16 taps ⌝ }
+{
+    let edge = EdgeLimits {
+        threshold: hev_threshold,
+        interior: interior_limit,
+        limit: edge_limit,
+    };
+    if mb_edge {
+        mb_run16(taps, edge)
+    } else {
+        sub_run16(taps, edge)
+    }
+}
+
+pub(crate) fn normal_filter_run8(
+    taps: [[i16; 8]; 8],
+    hev_threshold: u8,
+    interior_limit: u8,
+    edge_limit: u8,
+    mb_edge: bool,
+) -> [[i16; 8]; 8]
+    requires { ⌜ SignedRows 8 8 taps ⌝ }
+    ensures { λ r. ⌜ r ≡ runOfEight (normalKernel «mb_edge» «hev_threshold» «interior_limit» «edge_limit») 8 taps ⌝ }
+{
+    let edge = EdgeLimits {
+        threshold: hev_threshold,
+        interior: interior_limit,
+        limit: edge_limit,
+    };
+    if mb_edge {
+        mb_run8(taps, edge)
+    } else {
+        sub_run8(taps, edge)
+    }
+}
+
+pub(crate) fn simple_run(taps: [[i16; 16]; 4], edge_limit: u8) -> [[i16; 16]; 4]
+    requires { ⌜ SignedRows 4 16 taps ⌝ }
+    ensures { λ r. ⌜ r ≡ runOfFour (simpleSegment «edge_limit») 16 taps ⌝ }
+{
+    let r0 = taps[0];
+    let r1 = taps[1];
+    let r2 = taps[2];
+    let r3 = taps[3];
+    let mut o1 = r1;
+    let mut o2 = r2;
+    for n in 0..16 {
+        let s = simple_position(edge_limit, r0[n], r1[n], r2[n], r3[n]);
+        let v1 = s.p0;
+        let v2 = s.q0;
+        o1[n] = v1;
+        o2[n] = v2;
+    }
+    [r0, o1, o2, r3]
+}

@@ -1,0 +1,2 @@
+-- The laws of the definitions of this crate.
+pub mod Judgement

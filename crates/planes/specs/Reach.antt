@@ -1,0 +1,27 @@
+-- Which samples a macroblock can reach.
+use mathlib.Core.Logic.{_⊎_}
+use Prim.Native.Nat.{ℕ, _+_, _-_, _*_, _≤_, _<_}
+use Rattle.planes.specs.Planes.{Grid, side, Sample, rowOf, columnOf, gridRow, gridColumn}
+
+unfoldable pub Box : (top bottom left right row column : ℕ) → Type 0
+Box top bottom left right row column = (top ≤ row) × (row < bottom) × (left ≤ column) × (column < right)
+
+-- In or near the square of `size` samples whose corner is at `top`, `left`: in it or 3 columns left of it along its rows, in it or 3 rows above it along its columns.
+-- `-` stops at 0, the grid's border.
+unfoldable pub Near : (size top left row column : ℕ) → Type 0
+Near size top left row column =
+    Box top (top + size) (left - 3) (left + size) row column ⊎ Box (top - 3) (top + size) left (left + size) row column
+
+-- macroblock m can reach the sample: document 01's term
+unfoldable pub Reach : Grid → (m : ℕ) → Sample → Type 0
+Reach g m x = Near (side (x .on)) (side (x .on) * gridRow g m) (side (x .on) * gridColumn g m) (rowOf g x) (columnOf g x)
+
+-- the sample is one of macroblock m's own square
+unfoldable pub Own : Grid → (m : ℕ) → Sample → Type 0
+Own g m x =
+    Box (side (x .on) * gridRow g m) (side (x .on) * gridRow g m + side (x .on))
+    (side (x .on) * gridColumn g m) (side (x .on) * gridColumn g m + side (x .on)) (rowOf g x) (columnOf g x)
+
+-- the sample lies in the grid
+unfoldable pub InGrid : Grid → Sample → Type 0
+InGrid g x = (rowOf g x < side (x .on) * g .rows) × (columnOf g x < side (x .on) * g .columns)

@@ -1,0 +1,4 @@
+-- The laws of the definitions of this crate.
+pub mod CopyLaws
+pub mod SameGrid
+pub mod Passes

@@ -4,11 +4,15 @@ use mathlib.Core.Logic.{_⊎_, inl, inr}
 use mathlib.Core.List.{List, [], _∷_, List·Memᴰ, List·Memᴰ·head, List·Memᴰ·tail, List·Memᴰ·cases-cons, List·Memᴰ·not-nil}
 use Prim.Native.Nat.{ℕ, zero, suc, _+_, _-_, _≤_, _<_, min}
 use native.Mathlib.Nat.{zero-add, add-zero, add-assoc, zero-min}
+use native.Mathlib.Decide.{decLt}
 use native.Mathlib.Omega.{arith}
+use mathlib.Core.Option as option
+use mathlib.Core.Option.{Option}
 use lib.ListN.{length}
+use lib.Seq.{ext-getD}
 use Rattle.kernels.specs.Answers.{Outcome, gives, refuses}
 use Rattle.planes.specs.Steps.{steps, Clear}
-use Rattle.planes.specs.Planes.{Plane, Planes, Grid, plane, Sample, sample, macroblocks, StridesHold}
+use Rattle.planes.specs.Planes.{Plane, luma, chromaU, chromaV, Planes, Grid, plane, Sample, sample, macroblocks, StridesHold}
 use Rattle.planes.specs.Reach.{Reach, Own}
 use Rattle.calls.specs.Entries.{Entry}
 use Rattle.calls.specs.Pass.{Pass, Call, Progress, step, count, next, answer, planesAfter}
@@ -78,13 +82,18 @@ module _ (W : Pass) (pic : Picture) where
       ap (λ (p : Planes). length (plane q p)) (did h a d l e on .planes)
       ∙ length-steps (pic .grid) (λ m. W .plan (pic .settings) (W .entry (a .carried) m)) (h .start) (min (a .allowance) (n - h .start)) (h .planes) q
 
-  -- a refused call leaves the picture's planes, lent to it or not
+  -- a refused call leaves the picture's planes, whatever of them it was lent
   pub planes-stay : (h h₁ : LastLeft) (a : Call W) (number : ℕ) → answer W a ≡ refuses number → AfterRefused W h a h₁ → h₁ .planes ≡ h .planes
-  planes-stay h h₁ a number e after = go (after .planes)
+  planes-stay h h₁ a number e after = λ i. record { y = same luma i; u = same chromaU i; v = same chromaV i }
     where
-      go : ((a .lent ≡ h .planes) × (h₁ .planes ≡ planesAfter W a)) ⊎ (h₁ .planes ≡ h .planes) → h₁ .planes ≡ h .planes
-      go (inl (these, left)) = left ∙ refused-keeps W a number e .2 ∙ these
-      go (inr same) = same
+      at : (x : Sample) (o : Option Sample) → after .sees x ≡ o → sample (h₁ .planes) x ≡ sample (h .planes) x
+      at x option.none s = after .unseen x s
+      at x (option.some y) s = after .left x y s ∙ ap (λ (p : Planes). sample p y) (refused-keeps W a number e .2) ∙ after .lent x y s
+
+      same : (q : Plane) → plane q (h₁ .planes) ≡ plane q (h .planes)
+      same q =
+          ext-getD 0 (plane q (h₁ .planes)) (plane q (h .planes)) (after .lengths q)
+          (λ i _. at (record { on = q; index = i }) (after .sees (record { on = q; index = i })) refl)
 
   start-le : (h : LastLeft) (a : Call W) (d : Progress) → h .start ≤ n → answer W a ≡ gives d → GoesOn W pic h a
       → (h .start ≤ (afterAccepted W a d) .start) × ((afterAccepted W a d) .start ≤ n)
@@ -176,15 +185,11 @@ module _ (W : Pass) (pic : Picture) where
   module _ (k : ℕ) (x : Sample) (clear : Clear (Reach (pic .grid)) k n x) where
     call-keeps : (h : LastLeft) (a : Call W) (d : Progress) → k ≤ h .start → h .start ≤ n → answer W a ≡ gives d → GoesOn W pic h a
         → sample ((afterAccepted W a d) .planes) x ≡ sample (h .planes) x
-    unfolding afterAccepted steps step
+    unfolding afterAccepted step
     call-keeps h a d b l e on =
-        ap (λ (p : Planes). sample p x) (did h a d l e on .planes) ∙ go (min (a .allowance) (n - h .start)) (omega arith)
-      where
-        go : (c : ℕ) → h .start + c ≤ n → sample (steps (f (W .entry (a .carried))) (h .start) c (h .planes)) x ≡ sample (h .planes) x
-        go zero _ = refl
-        go (suc c) m =
-            macroblocks-keep (pic .grid) (λ i. W .plan (pic .settings) (W .entry (a .carried) i)) (strides-of h a d e on (omega arith))
-            (h .start) (suc c) (h .planes) x m (clear-later sample (Reach (pic .grid)) k (h .start) n x b clear)
+        ap (λ (p : Planes). sample p x) (did h a d l e on .planes)
+        ∙ macroblocks-keep (pic .grid) (λ i. W .plan (pic .settings) (W .entry (a .carried) i)) (h .start) (min (a .allowance) (n - h .start)) (h .planes) x (omega arith)
+        (clear-later sample (Reach (pic .grid)) k (h .start) n x b clear)
 
     own-clear : Clear (Own (pic .grid)) k n x
     unfolding Clear
@@ -199,3 +204,27 @@ module _ (W : Pass) (pic : Picture) where
         further-keeps (omega arith) (s .1) r ∙ call-keeps h a d b l e on
     further-keeps b l (FurtherCalls.refused {h = h} {h₁ = h₁} a number e after r) =
         further-keeps (rw (after .start) b) (rw (after .start) l) r ∙ ap (λ (p : Planes). sample p x) (planes-stay h h₁ a number e after)
+
+  -- further calls go on towards n
+  pub further-start : {k : ℕ} {h h′ : LastLeft} → h .start ≤ n → FurtherCalls W pic k h h′ → (h .start ≤ h′ .start) × (h′ .start ≤ n)
+  further-start l FurtherCalls.none = omega arith
+  further-start l (FurtherCalls.putIn t others r) = further-start l r
+  further-start l (FurtherCalls.accepted {h = h} a d e on r) =
+      let s = start-le h a d l e on in let f = further-start (s .1) r in omega arith
+  further-start l (FurtherCalls.refused {h = h} {h₁ = h₁} a number e after r) =
+      let f = further-start (rw (after .start) l) r in omega (arith, after .start)
+
+  -- where they did a macroblock, the strides hold a row
+  pub further-strides : {k : ℕ} {h h′ : LastLeft} → h .start ≤ n → h .start < h′ .start → FurtherCalls W pic k h h′ → StridesHold (pic .grid)
+  further-strides l more FurtherCalls.none = absurd (omega arith)
+  further-strides l more (FurtherCalls.putIn t others r) = further-strides l more r
+  further-strides l more (FurtherCalls.accepted {h = h} {h′ = h′} a d e on r) =
+      let s = start-le h a d l e on in
+      go s (decLt (h .start) ((afterAccepted W a d) .start)) (λ m. further-strides (s .1) m r)
+    where
+      go : (h .start ≤ (afterAccepted W a d) .start) × ((afterAccepted W a d) .start ≤ n) → Dec (h .start < (afterAccepted W a d) .start)
+          → ((afterAccepted W a d) .start < h′ .start → StridesHold (pic .grid)) → StridesHold (pic .grid)
+      go s (yes did-some) later = strides-of h a d e on (omega (arith, s))
+      go s (no did-none) later = later (omega (arith, s))
+  further-strides l more (FurtherCalls.refused {h = h} {h₁ = h₁} a number e after r) =
+      further-strides (rw (after .start) l) (omega (arith, after .start)) r

@@ -1,16 +1,18 @@
 -- Demand 3, for every pass, and for the key pass and the inter pass by name.
 use mathlib.Core.Path.{_≡_, refl, sym, ap, _∙_, subst}
-use mathlib.Core.Logic.{_⊎_, inl, inr}
+use mathlib.Core.Bool.{Bool, true, false, cond}
 use mathlib.Core.List.{List, List·Memᴰ}
 use Prim.Native.Nat.{ℕ, _+_, _-_, _≤_, _<_, min}
 use native.Mathlib.Nat.{zero-add, sub-zero}
+use lib.Dec.{eqb}
 use native.Mathlib.Decide.{decLt}
 use native.Mathlib.Omega.{arith}
 use Rattle.kernels.specs.Answers.{gives}
 use Rattle.planes.specs.Steps.{steps, Clear}
 use Rattle.planes.specs.Planes.{Planes, Grid, Sample, sample, macroblocks, StridesHold}
-use Rattle.planes.specs.Reach.{Reach}
-use Rattle.calls.specs.Pass.{Pass, Call, keyPass, interPass, step, count, next, answer, planesAfter}
+use Rattle.planes.specs.Macroblock.{filterMacroblock}
+use Rattle.planes.specs.Reach.{Reach, InGrid}
+use Rattle.calls.specs.Pass.{Pass, Call, keyPass, interPass, refusal, step, count, next, answer, planesAfter}
 use Rattle.calls.specs.Calls.{
   Picture,
   LastLeft,
@@ -23,10 +25,11 @@ use Rattle.calls.specs.Calls.{
   finalValue,
   Unbroken,
   unbrokenCall,
+  OfEveryCall,
   SomeAccepted,
   Promise,
 }
-use Rattle.planes.proofs.Final.{sample-final}
+use Rattle.planes.proofs.Final.{sample-final, outside-keeps}
 use Rattle.calls.proofs.CallFacts.{taken, answer-taken, refused-keeps, strides-hold, accepted-too}
 use Rattle.calls.proofs.CallRuns.{n, f, same-steps, did, planes-stay, Run, run, member, some, further-keeps}
 
@@ -108,19 +111,52 @@ module _ (W : Pass) (pic : Picture) (p : Planes) where
     zero-there e = omega (arith, k-le)
 
     -- the strides hold a row, where some call was accepted
-    strides-there : SomeAccepted W list → 0 < n W pic → StridesHold (pic .grid)
+    pub strides-there : SomeAccepted W list → 0 < n W pic → StridesHold (pic .grid)
     unfolding SomeAccepted Accepted
     strides-there (a, i, ok) l =
         let m = member W pic a (omega arith) calls i ok in
         subst (λ (g : Grid). StridesHold g) (m .grid) (strides-hold W a (taken W a (ok .0) (ok .1) .not-refused) (rw (m .grid) l))
 
-    final-there : (0 < n W pic → StridesHold (pic .grid)) → (x : Sample) → Clear (Reach (pic .grid)) k (n W pic) x → sample (h .planes) x ≡ finalValue W pic p x
+    final-there : (x : Sample) → Clear (Reach (pic .grid)) k (n W pic) x → sample (h .planes) x ≡ finalValue W pic p x
     unfolding firstMacroblocks finalValue step
-    final-there ok x clear = ap (λ (z : Planes). sample z x) planes-are ∙ go (decLt k (n W pic))
-      where
-        go : Dec (k < n W pic) → sample (steps (step W (pic .grid) (pic .settings) (pic .entries)) 0 k p) x ≡ sample (steps (step W (pic .grid) (pic .settings) (pic .entries)) 0 (n W pic) p) x
-        go (yes l) = sample-final (pic .grid) (λ m. W .plan (pic .settings) (pic .entries m)) (ok (omega arith)) k p x k-le clear
-        go (no l) = let e : k ≡ n W pic = omega (arith, k-le) in ap (λ (j : ℕ). sample (steps (step W (pic .grid) (pic .settings) (pic .entries)) 0 j p) x) e
+    final-there x clear =
+        ap (λ (z : Planes). sample z x) planes-are ∙ sample-final (pic .grid) (λ m. W .plan (pic .settings) (pic .entries m)) k p x k-le clear
+
+    outside-there : (x : Sample) → ¬ InGrid (pic .grid) x → sample (h .planes) x ≡ sample p x
+    unfolding firstMacroblocks step
+    outside-there x out =
+        ap (λ (z : Planes). sample z x) planes-are ∙ outside-keeps (pic .grid) (λ m. W .plan (pic .settings) (pic .entries m)) 0 k p x (omega (arith, k-le)) out
+
+-- ---- of every call
+
+call-outside : (W : Pass) (a : Call W) (x : Sample) → ¬ InGrid (a .grid) x → sample (planesAfter W a) x ≡ sample (a .lent) x
+unfolding planesAfter step count steps
+call-outside W a x out = go (eqb (refusal W a) 0) (decLt (a .start) (macroblocks (a .grid)))
+  where
+    done-of : ℕ → Planes
+    done-of c = steps (filterMacroblock (a .grid) (λ m. W .plan (a .settings) (W .entry (a .carried) m))) (a .start) c (a .lent)
+
+    kept : Dec (a .start < macroblocks (a .grid)) → sample (done-of (min (a .allowance) (macroblocks (a .grid) - a .start))) x ≡ sample (a .lent) x
+    kept (yes l) =
+        outside-keeps (a .grid) (λ m. W .plan (a .settings) (W .entry (a .carried) m)) (a .start) (min (a .allowance) (macroblocks (a .grid) - a .start)) (a .lent) x (omega arith) out
+    kept (no l) =
+        let e : min (a .allowance) (macroblocks (a .grid) - a .start) ≡ 0 = omega arith in
+        ap (λ (c : ℕ). sample (done-of c) x) e
+
+    go : (b : Bool) → Dec (a .start < macroblocks (a .grid))
+        → sample (cond b (done-of (min (a .allowance) (macroblocks (a .grid) - a .start))) (a .lent)) x ≡ sample (a .lent) x
+    go true d = kept d
+    go false d = refl
+
+pub every-call : (W : Pass) → OfEveryCall W
+every-call W = record {
+  refused = λ a number e. refused-keeps W a number e;
+  leaves-both = λ a number e before after stayed. (planes-stay W (picture-of a) before after a number e stayed, stayed .start);
+  outside = call-outside W;
+}
+  where
+    picture-of : Call W → Picture
+    picture-of a = record { grid = a .grid; settings = a .settings; entries = W .entry (a .carried) }
 
 -- THE THEOREM, for every pass
 pub demand-3 : (W : Pass) (pic : Picture) (p : Planes) (list : List (Call W)) (h : LastLeft) → Calls W pic (record { planes = p; start = 0 }) list h → Promise W pic p list h
@@ -129,21 +165,17 @@ demand-3 W pic p list h calls =
       planes = planes-are W pic p list h calls;
       added = added-up W pic p list h calls;
       start = start-is W pic p list h calls;
-      refused = λ a number e. refused-keeps W a number e;
-      leaves-both = λ a number e before after stayed. (planes-stay W pic before after a number e stayed, stayed .start);
       unbroken = unbroken-planes W pic p list h calls;
       unbroken-accepted = unbroken-there W pic p list h calls;
       some-accepted = some-there W pic p list h calls;
       none-accepted = λ nobody. as-at-first W pic p list h calls (none-there W pic p list h calls nobody);
       zero-grid = λ e. as-at-first W pic p list h calls (zero-there W pic p list h calls e);
-      final = λ ok. final-there W pic p list h calls (strides ok);
+      final = final-there W pic p list h calls;
       keeps = λ x clear h′ further.
-          further-keeps W pic (done W pic list) x clear (omega (arith, start-is W pic p list h calls)) (omega (arith, start-is W pic p list h calls, k-le W pic p list h calls)) further;
+          further-keeps W pic (done W pic list) x clear (omega (arith, start-is W pic p list h calls)) (omega (arith, start-is W pic p list h calls, k-le W pic p list h calls)) further
+          ∙ final-there W pic p list h calls x clear;
+      outside = outside-there W pic p list h calls;
     }
-  where
-    strides : SomeAccepted W list ⊎ (0 < macroblocks (pic .grid) → StridesHold (pic .grid)) → 0 < macroblocks (pic .grid) → StridesHold (pic .grid)
-    strides (inl someone) = strides-there W pic p list h calls someone
-    strides (inr ok) = ok
 
 -- by name
 pub key-pass-calls : (pic : Picture) (p : Planes) (list : List (Call keyPass)) (h : LastLeft) → Calls keyPass pic (record { planes = p; start = 0 }) list h → Promise keyPass pic p list h

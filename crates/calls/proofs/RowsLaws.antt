@@ -15,6 +15,7 @@ use Rattle.planes.specs.GridRefusals.{zeroGrid, tooLarge}
 use Rattle.calls.specs.FinalRows.{Rows, rowsIn, rowsAbove, rowsFinal, finalRows, Reached, LeadingRows}
 use Rattle.planes.proofs.Fits.{factor-positive, square-within, row-column, side-least}
 use Rattle.planes.proofs.Local.{reach-in-grid}
+use Rattle.planes.proofs.Divided.{reach-divides, reach-divided}
 use Rattle.calls.proofs.CallFacts.{zero-macroblocks, not-zero-macroblocks}
 
 -- ---- what the definition answers
@@ -72,27 +73,27 @@ module _ (g : Grid) (start : ℕ) where
       go (inl b) = omega (arith, down)
       go (inr b) = omega (arith, down)
 
-  rows-clear : (x : Sample) → start ≤ macroblocks g → rowOf g x < rowsFinal g (x .on) start → Clear (Reach g) start (macroblocks g) x
-  unfolding Clear Reach rowsFinal
-  rows-clear x l h m a b near = go (eqb start (macroblocks g)) refl h
+  rows-clear : StridesHold g → (x : Sample) → start ≤ macroblocks g → rowOf g x < rowsFinal g (x .on) start → Clear (Reach g) start (macroblocks g) x
+  unfolding Clear rowsFinal
+  rows-clear ok x l h m a b reached = go (eqb start (macroblocks g)) refl h
     where
       go : (t : Bool) → eqb start (macroblocks g) ≡ t → rowOf g x < cond t (side (x .on) * g .rows) (rowsAbove (side (x .on) * gridRow g start)) → ⊥
       go true e h = omega (arith, eqb-true start (macroblocks g) e)
-      go false e h = above (x .on) m (rowOf g x) (columnOf g x) a b h near
+      go false e h = above (x .on) m (rowOf g x) (columnOf g x) a b h (reach-divides g ok x m b reached)
 
   -- macroblock `start` itself reaches the row below these, at its own columns
   row-reached : (q : Plane) → StridesHold g → start < macroblocks g → Reached g start q (rowsAbove (side q * gridRow g start))
-  unfolding StridesHold Reach Near Box
+  unfolding StridesHold Near Box
   row-reached q ok hm =
       record {
         where-it-is = x;
         in-plane = refl;
         in-row = at .0;
-        in-grid = reach-in-grid g start x hm near;
+        in-grid = reach-in-grid g start x hm (reach-divided g start x near);
         by = start;
         not-begun = omega arith;
         in-frame = hm;
-        reached = near;
+        reached = reach-divided g start x near;
       }
     where
       x : Sample
@@ -124,7 +125,7 @@ module _ (g : Grid) (start : ℕ) where
 module _ (g : Grid) (start : ℕ) where
   no-rows-lead : zeroGrid g ≡ true → LeadingRows g start (record { luma = 0; chroma = 0 })
   unfolding zeroGrid
-  no-rows-lead z = record { clear = λ x h. absurd (none (x .on) (rowOf g x) h); most = λ h _ q _. absurd (omega (arith, zero-macroblocks (g .columns) (g .rows) z)) }
+  no-rows-lead z = record { clear = λ _ x h. absurd (none (x .on) (rowOf g x) h); most = λ h _ q _. absurd (omega (arith, zero-macroblocks (g .columns) (g .rows) z)) }
     where
       none : (q : Plane) (row : ℕ) → row < rowsIn q (record { luma = 0; chroma = 0 }) → ⊥
       none luma row h = omega arith
@@ -142,7 +143,7 @@ module _ (g : Grid) (start : ℕ) where
 
   given-lead : start ≤ macroblocks g → LeadingRows g start given-rows
   given-lead l = record {
-    clear = λ x h. rows-clear g start x l (rw (same-rows (x .on)) at h);
+    clear = λ ok x h. rows-clear g start ok x l (rw (same-rows (x .on)) at h);
     most = λ _ ok q h. rw (same-rows q) (rows-most g start q ok l (rw (same-rows q) at h));
   }
 

@@ -1,14 +1,17 @@
 -- Demand 3: a list of calls of one pass on one picture, and further calls after it (document 01, Halting and Halting rule).
 -- What a call answers and leaves is `answer` and `planesAfter`, which the contracts of the passes cite. Lines in quotation marks are the demand's.
 use mathlib.Core.Path.{_≡_}
-use mathlib.Core.Logic.{_⊎_, _≢_}
+use mathlib.Core.Logic.{_≢_}
 use mathlib.Core.List.{List, [], _∷_, List·Memᴰ}
+use mathlib.Core.Option as option
+use mathlib.Core.Option.{Option}
 use Prim.Native.Nat.{ℕ, _+_, _<_, min}
 use Rattle.kernels.specs.Answers.{Outcome, gives, refuses}
 use Rattle.levels.specs.declared.config.FrameFilterConfig.{FrameFilterConfig}
 use Rattle.planes.specs.Steps.{steps, Clear}
-use Rattle.planes.specs.Planes.{Planes, Grid, Sample, sample, macroblocks, StridesHold}
-use Rattle.planes.specs.Reach.{Reach, Own}
+use lib.ListN.{length}
+use Rattle.planes.specs.Planes.{Plane, Planes, Grid, plane, Sample, sample, macroblocks}
+use Rattle.planes.specs.Reach.{Reach, Own, InGrid}
 use Rattle.calls.specs.Entries.{Entry}
 use Rattle.calls.specs.Pass.{Pass, Call, Progress, refusal, step, answer, planesAfter}
 
@@ -57,10 +60,15 @@ module _ (W : Pass) where
   unfoldable pub afterAccepted : Call W → Progress → LastLeft
   afterAccepted a d = record { planes = planesAfter W a; start = d .next }
 
-  -- After a refused call the start stays. The picture's planes are what the call left of them, if it was lent them; if it was lent others, nobody wrote the picture's.
+  -- After a refused call the start stays. The call may have been lent any of the picture's samples, in whatever planes: `sees` tells where it sees each, if it was lent it at all.
+  -- A sample that it sees is afterwards what it left there. Nobody else writes the picture meanwhile: a sample that it does not see stays.
   pub record AfterRefused (h : LastLeft) (a : Call W) (h′ : LastLeft) : Type 0 where
     pub start : h′ .start ≡ h .start
-    pub planes : ((a .lent ≡ h .planes) × (h′ .planes ≡ planesAfter W a)) ⊎ (h′ .planes ≡ h .planes)
+    pub sees : Sample → Option Sample
+    pub lent : (x y : Sample) → sees x ≡ option.some y → sample (a .lent) y ≡ sample (h .planes) x
+    pub left : (x y : Sample) → sees x ≡ option.some y → sample (h′ .planes) x ≡ sample (planesAfter W a) y
+    pub unseen : (x : Sample) → sees x ≡ option.none → sample (h′ .planes) x ≡ sample (h .planes) x
+    pub lengths : (q : Plane) → length (plane q (h′ .planes)) ≡ length (plane q (h .planes))
 
   -- ---- a list of calls
 
@@ -123,6 +131,16 @@ module _ (W : Pass) where
 
   -- ---- the promise
 
+  -- Of every call, whatever its arguments.
+  pub record OfEveryCall : Type 0 where
+    -- A refused call answers its number, and the planes lent to it, whichever they were, come back as they were. So "a refused one leaves both".
+    pub refused : (a : Call W) (number : ℕ) → answer W a ≡ refuses number → (number ≡ refusal W a) × (number ≢ 0) × (planesAfter W a ≡ a .lent)
+    pub leaves-both :
+        (a : Call W) (number : ℕ) → answer W a ≡ refuses number
+        → (before after : LastLeft) → AfterRefused before a after → (after .planes ≡ before .planes) × (after .start ≡ before .start)
+    -- "Samples outside the grid never change."
+    pub outside : (a : Call W) (x : Sample) → ¬ InGrid (a .grid) x → sample (planesAfter W a) x ≡ sample (a .lent) x
+
   unfoldable pub SomeAccepted : List (Call W) → Type 0
   SomeAccepted list = (a : Call W) × (List·Memᴰ a list) × Accepted a
 
@@ -133,11 +151,6 @@ module _ (W : Pass) where
     -- "the counts add up to k, the start to go on from"
     pub added : counts list ≡ done pic list
     pub start : h .start ≡ done pic list
-    -- A refused call answers its number, and the planes lent to it, whichever they were, come back as they were. So "a refused one leaves both".
-    pub refused : (a : Call W) (number : ℕ) → answer W a ≡ refuses number → (number ≡ refusal W a) × (number ≢ 0) × (planesAfter W a ≡ a .lent)
-    pub leaves-both :
-        (a : Call W) (number : ℕ) → answer W a ≡ refuses number
-        → (before after : LastLeft) → AfterRefused before a after → (after .planes ≡ before .planes) × (after .start ≡ before .start)
     -- "Where k is the whole grid, the planes are those of one unbroken pass."
     pub unbroken : done pic list ≡ macroblocks (pic .grid) → (a : Call W) → Unbroken pic p a → h .planes ≡ planesAfter W a
     -- There is such a call: what any accepted call of the list carried makes one. It does all n.
@@ -149,11 +162,11 @@ module _ (W : Pass) where
     pub some-accepted : 0 < done pic list → SomeAccepted list
     pub none-accepted : ¬ SomeAccepted list → (done pic list ≡ 0) × (h .planes ≡ p) × (h .start ≡ 0)
     pub zero-grid : macroblocks (pic .grid) ≡ 0 → (done pic list ≡ 0) × (h .planes ≡ p) × (h .start ≡ 0)
-    -- "After the list each sample that no later macroblock can reach already has its final value": where some call of the list was accepted, or the strides are such as 2 doesn't refuse.
-    pub final :
-        SomeAccepted list ⊎ (0 < macroblocks (pic .grid) → StridesHold (pic .grid))
-        → (x : Sample) → Clear (Reach (pic .grid)) (done pic list) (macroblocks (pic .grid)) x → sample (h .planes) x ≡ finalValue pic p x
+    -- "After the list each sample that no later macroblock can reach already has its final value"
+    pub final : (x : Sample) → Clear (Reach (pic .grid)) (done pic list) (macroblocks (pic .grid)) x → sample (h .planes) x ≡ finalValue pic p x
     -- "and keeps it through all further calls, whatever acceptable samples and entries stand in by then for those of macroblocks not yet begun"
     pub keeps :
         (x : Sample) → Clear (Reach (pic .grid)) (done pic list) (macroblocks (pic .grid)) x
-        → (h′ : LastLeft) → FurtherCalls pic (done pic list) h h′ → sample (h′ .planes) x ≡ sample (h .planes) x
+        → (h′ : LastLeft) → FurtherCalls pic (done pic list) h h′ → sample (h′ .planes) x ≡ finalValue pic p x
+    -- "Samples outside the grid never change."
+    pub outside : (x : Sample) → ¬ InGrid (pic .grid) x → sample (h .planes) x ≡ sample p x

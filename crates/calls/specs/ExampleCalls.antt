@@ -4,8 +4,14 @@ use mathlib.Core.Bool.{Bool, true, false}
 use mathlib.Core.List.{List, [], _∷_, _++_}
 use Prim.Native.Nat.{ℕ, zero, suc}
 use lib.IntN.{pos}
-use lib.ListN.{replicate, set}
+use lib.ListN.{replicate, set, take}
 use Rattle.levels.specs.declared.config.FrameFilterConfig.{FrameFilterConfig}
+use Rattle.levels.specs.declared.modes.IntraYMode.{IntraYMode}
+use Rattle.levels.specs.declared.modes.IntraYMode.the-variants as mode
+use Rattle.levels.specs.declared.modes.MaybeRef.the-variants as reference
+use Rattle.levels.specs.declared.modes.MaybeInter.the-variants as inter
+use Rattle.calls.specs.declared.records.MacroblockModes.{MacroblockModes}
+use Rattle.calls.specs.declared.records.MaybeSegment.the-variants as segment
 use Rattle.planes.specs.Planes.{luma, Planes, Grid, Sample}
 use Rattle.calls.specs.Entries.{KeyLists, InterLists, KeyCarried, InterCarried, keyEntry, interEntry}
 use Rattle.calls.specs.Pass.{Call, keyPass, interPass}
@@ -86,9 +92,42 @@ key₃ = across (replicate 3 100 ++ 102 ∷ 106 ∷ replicate 10 108 ++ 110 ∷ 
 abbrev pub key₃′ : Planes
 key₃′ = across (replicate 3 100 ++ 102 ∷ 106 ∷ replicate 10 108 ++ 110 ∷ 114 ∷ replicate 14 116 ++ 118 ∷ 122 ∷ replicate 2 124 ++ 126 ∷ 130 ∷ replicate 11 132)
 
--- the second call is lent planes that are too short
+-- all but the last row of luma
+abbrev pub withoutLastRow : Planes → Planes
+withoutLastRow p = record { y = take 720 (p .y); u = p .u; v = p .v }
+
+-- the second call is lent the picture's planes without the last row of luma
 abbrev pub keyList : List (Call keyPass)
-keyList = keyExampleCall key₀ 0 0 1 ∷ keyExampleCall (record { y = []; u = []; v = [] }) 0 0 9 ∷ keyExampleCall key₁ 0 1 1 ∷ []
+keyList = keyExampleCall key₀ 0 0 1 ∷ keyExampleCall (withoutLastRow key₁) 0 1 9 ∷ keyExampleCall key₁ 0 1 1 ∷ []
+
+-- the same entries as records
+abbrev pub keyExampleRecords : List MacroblockModes
+keyExampleRecords = of mode.B ∷ of mode.Dc ∷ of mode.Dc ∷ []
+  where
+    of : IntraYMode → MacroblockModes
+    of m = record { «y_mode» = m; «segment_id» = segment.Absent; «has_coeffs» = false; «ref_frame» = reference.Absent; «inter_mode» = inter.Absent }
+
+abbrev pub keyRecordsExampleCall : Planes → (start allowance : ℕ) → Call keyPass
+keyRecordsExampleCall p start allowance = record { grid = keyGrid; settings = settings true true; carried = KeyCarried.records keyExampleRecords; lent = p; start = start; allowance = allowance }
+
+-- byte lists, records, byte lists, to the end of the grid
+abbrev pub mixedList : List (Call keyPass)
+mixedList = keyExampleCall key₀ 0 0 1 ∷ keyRecordsExampleCall key₁ 1 1 ∷ keyExampleCall key₂ 0 2 9 ∷ []
+
+-- a grid of no columns: any start, strides and lists are accepted
+abbrev pub zeroPicture : Picture
+zeroPicture = record { grid = record { columns = 0; rows = 1; lumaStride = 0; chromaStride = 0 }; settings = settings true true; entries = keyEntry (keyExampleLists 0) }
+
+abbrev pub zeroList : List (Call keyPass)
+zeroList =
+    record {
+      grid = zeroPicture .grid;
+      settings = settings true true;
+      carried = KeyCarried.byteLists (keyExampleLists 0);
+      lent = key₀;
+      start = 0;
+      allowance = 5;
+    } ∷ []
 
 -- ---- the inter pass: both macroblocks of mode Dc, reference Last and inter mode Nearest; the first has coefficients, the second none or some
 

@@ -57,7 +57,7 @@ pub record Reached (g : Grid) (start : ℕ) (q : Plane) (row : ℕ) : Type 0 whe
   pub reached : Reach g by where-it-is
 
 pub record LeadingRows (g : Grid) (start : ℕ) (r : Rows) : Type 0 where
-  -- no macroblock from `start` on can reach a sample in them
-  pub clear : (x : Sample) → rowOf g x < rowsIn (x .on) r → Clear (Reach g) start (macroblocks g) x
+  -- no macroblock from `start` on can reach a sample in them, where the strides are such as 2 does not refuse
+  pub clear : StridesHold g → (x : Sample) → rowOf g x < rowsIn (x .on) r → Clear (Reach g) start (macroblocks g) x
   -- reach allows no more of them: a sample of the next row, if there is one, can be reached
   pub most : 0 < macroblocks g → StridesHold g → (q : Plane) → rowsIn q r < side q * g .rows → Reached g start q (rowsIn q r)

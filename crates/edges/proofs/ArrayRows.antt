@@ -19,3 +19,6 @@ rows-long w n (x ∷ t) (u ∷ us) (suc k) h p = rows-long w n t us k (omega ari
 
 pub row-long : (m n : ℕ) (t : List (List ℤ)) (vs : List Val) → shadow (Array (Array (SInt w16) n) m .own t vs) → (k : ℕ) → k < m → length (getD t k []) ≡ n
 row-long m n t vs p k h = rows-long w16 n t (p .0) k (omega (arith, p .1 .0 .1)) (p .1 .1)
+
+pub rows-many : (m n : ℕ) (t : List (List ℤ)) (vs : List Val) → shadow (Array (Array (SInt w16) n) m .own t vs) → length t ≡ m
+rows-many m n t vs p = p .1 .0 .1

@@ -201,21 +201,13 @@ module _ (threshold interior edge n s at : ℕ) (l : List ℕ) (bytes : (i : ℕ
       ∙ eight-edge k refl n s at l bytes six w
 
   -- the same of either kind of edge
-  pub either-signed : (mb : Bool) → r ≡ runOfEight (normalKernel mb threshold interior edge) n t → SignedInner n r
-  either-signed true e = mb-signed e
-  either-signed false e = sub-signed e
-
-  pub mb-either : (mb : Bool) → mb ≡ true → n ≤ s → r ≡ runOfEight (normalKernel mb threshold interior edge) n t → (x : List ℕ) → x ≡ storeSix n s at r l
+  pub mb-either : (mb : Bool) → mb ≡ true → n ≤ s → r ≡ runOfEight (mbFilter threshold interior edge) n t → (x : List ℕ) → x ≡ storeSix n s at r l
       → x ≡ edgeFrom horizontal (normalKernel mb threshold interior edge) s at n l
-  mb-either mb h w e x f =
-      subst (λ (b : Bool). x ≡ edgeFrom horizontal (normalKernel b threshold interior edge) s at n l) (sym h)
-      (mb-edge w (subst (λ (b : Bool). r ≡ runOfEight (normalKernel b threshold interior edge) n t) h e) x f)
+  mb-either mb h w e x f = subst (λ (b : Bool). x ≡ edgeFrom horizontal (normalKernel b threshold interior edge) s at n l) (sym h) (mb-edge w e x f)
 
-  pub sub-either : (mb : Bool) → mb ≡ false → n ≤ s → r ≡ runOfEight (normalKernel mb threshold interior edge) n t → (x : List ℕ) → x ≡ storeFour n s at r l
+  pub sub-either : (mb : Bool) → mb ≡ false → n ≤ s → r ≡ runOfEight (subblockFilter threshold interior edge) n t → (x : List ℕ) → x ≡ storeFour n s at r l
       → x ≡ edgeFrom horizontal (normalKernel mb threshold interior edge) s at n l
-  sub-either mb h w e x f =
-      subst (λ (b : Bool). x ≡ edgeFrom horizontal (normalKernel b threshold interior edge) s at n l) (sym h)
-      (sub-edge w (subst (λ (b : Bool). r ≡ runOfEight (normalKernel b threshold interior edge) n t) h e) x f)
+  sub-either mb h w e x f = subst (λ (b : Bool). x ≡ edgeFrom horizontal (normalKernel b threshold interior edge) s at n l) (sym h) (sub-edge w e x f)
 
 -- ---- a run of four rows
 

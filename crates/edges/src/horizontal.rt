@@ -1,9 +1,12 @@
 // Horizontal edges (RFC 6386, section 15.1): the rows of taps across the edge are gathered, run by value, and scattered.
 // `at` is the first sample of the first row.
 use crate::room::has_rows;
-use crate::run::normal_filter_run8;
-use crate::run::normal_filter_run16;
+use crate::run::EdgeLimits;
+use crate::run::mb_run8;
+use crate::run::mb_run16;
 use crate::run::simple_run;
+use crate::run::sub_run8;
+use crate::run::sub_run16;
 use crate::taps::gather8;
 use crate::taps::gather16;
 use crate::taps::scatter8;
@@ -154,7 +157,8 @@ fn scatter_four8(plane: &mut [u8], stride: usize, at: usize, rows: [[i16; 8]; 8]
     scatter8(plane, a5, r5);
 }
 
-// A normal edge of 16 samples: a macroblock's, or an inner one. It is the one caller of the rows' gathering and of their run, so the compiler can put both here.
+// A normal edge of 16 samples: a macroblock's, or an inner one. It is the one caller of the rows' gathering and of their runs, so the compiler can put all three here.
+// Run and stores stand in one branch, so that their vectors stay in registers.
 fn h_run16(
     plane: &mut [u8],
     stride: usize,
@@ -169,15 +173,22 @@ fn h_run16(
     ensures { λ _. ⌜ now (plane .exit) ≡ edgeFrom horizontal (normalKernel «mb_edge» «hev_threshold» «interior_limit» «edge_limit») stride at 16 (now (plane .entry)) ⌝ }
 {
     let taps = gather_rows16(plane, stride, at);
-    let rows = normal_filter_run16(taps, hev_threshold, interior_limit, edge_limit, mb_edge);
+    let edge = EdgeLimits {
+        threshold: hev_threshold,
+        interior: interior_limit,
+        limit: edge_limit,
+    };
     if mb_edge {
+        let rows = mb_run16(taps, edge);
         scatter_six16(plane, stride, at, rows);
     } else {
+        let rows = sub_run16(taps, edge);
         scatter_four16(plane, stride, at, rows);
     }
 }
 
-// A normal edge of 8 samples: a macroblock's, or an inner one. It is the one caller of the rows' gathering and of their run, so the compiler can put both here.
+// A normal edge of 8 samples: a macroblock's, or an inner one. It is the one caller of the rows' gathering and of their runs, so the compiler can put all three here.
+// Run and stores stand in one branch, so that their vectors stay in registers.
 fn h_run8(
     plane: &mut [u8],
     stride: usize,
@@ -192,10 +203,16 @@ fn h_run8(
     ensures { λ _. ⌜ now (plane .exit) ≡ edgeFrom horizontal (normalKernel «mb_edge» «hev_threshold» «interior_limit» «edge_limit») stride at 8 (now (plane .entry)) ⌝ }
 {
     let taps = gather_rows8(plane, stride, at);
-    let rows = normal_filter_run8(taps, hev_threshold, interior_limit, edge_limit, mb_edge);
+    let edge = EdgeLimits {
+        threshold: hev_threshold,
+        interior: interior_limit,
+        limit: edge_limit,
+    };
     if mb_edge {
+        let rows = mb_run8(taps, edge);
         scatter_six8(plane, stride, at, rows);
     } else {
+        let rows = sub_run8(taps, edge);
         scatter_four8(plane, stride, at, rows);
     }
 }

@@ -10,13 +10,13 @@ ghost use Rattle.kernels.specs.Kernels as kern;
 ghost use Rattle.kernels.specs.Kernels.{apart, edgeValue, filterValue, filterYes, hev, gainOf, lossOf};
 ghost use Rattle.kernels.specs.Segment.{simpleSegment, subblockFilter, mbFilter};
 ghost use Rattle.edges.specs.Private.Runs as spec;
-ghost use Rattle.edges.specs.Private.Runs.{SignedRows, SignedEight, SignedFour, innerTaps, edgeTaps, normalKernel, runOfEight, runOfFour};
+ghost use Rattle.edges.specs.Private.Runs.{SignedRows, SignedEight, SignedFour, innerTaps, edgeTaps, tapOf, storeTap, storeInner, positionOf, runOfEight, runOfFour};
 
 // The limits of a normal edge.
-struct EdgeLimits {
-    threshold: u8,
-    interior: u8,
-    limit: u8,
+pub(crate) struct EdgeLimits {
+    pub(crate) threshold: u8,
+    pub(crate) interior: u8,
+    pub(crate) limit: u8,
 }
 
 // The six inner taps of a segment p3 .. q3.
@@ -278,192 +278,194 @@ fn simple_position(edge: u8, p1: i16, p0: i16, q0: i16, q1: i16) -> EdgeTaps
     }
 }
 
-fn mb_run16(taps: [[i16; 16]; 8], edge: EdgeLimits) -> [[i16; 16]; 8]
+// Tap k at position n.
+fn tap16(rows: &[[i16; 16]; 8], k: usize, n: usize) -> i16
+    requires { ⌜ k < 8 ⌝ }
+    requires { ⌜ n < 16 ⌝ }
+    ensures { λ r. ⌜ r ≡ tapOf (now (rows .entry)) k n ⌝ }
+{
+    rows[k][n]
+}
+
+// Tap k at position n becomes v.
+fn set_tap16(rows: &mut [[i16; 16]; 8], k: usize, n: usize, v: i16)
+    requires { ⌜ k < 8 ⌝ }
+    requires { ⌜ n < 16 ⌝ }
+    ensures { λ _. ⌜ now (rows .exit) ≡ storeTap k n v (now (rows .entry)) ⌝ }
+{
+    rows[k][n] = v;
+}
+
+// The inner taps at position n become s.
+fn set_inner16(rows: &mut [[i16; 16]; 8], n: usize, s: InnerTaps)
+    requires { ⌜ n < 16 ⌝ }
+    ensures { λ _. ⌜ now (rows .exit) ≡ storeInner n s (now (rows .entry)) ⌝ }
+{
+    set_tap16(rows, 1, n, s.p2);
+    set_tap16(rows, 2, n, s.p1);
+    set_tap16(rows, 3, n, s.p0);
+    set_tap16(rows, 4, n, s.q0);
+    set_tap16(rows, 5, n, s.q1);
+    set_tap16(rows, 6, n, s.q2);
+}
+
+// mb_filter at position n of eight rows.
+fn mb_at16(rows: &[[i16; 16]; 8], n: usize, edge: EdgeLimits) -> InnerTaps
+    requires { ⌜ SignedRows 8 16 (now rows) ⌝ }
+    requires { ⌜ n < 16 ⌝ }
+    ensures { λ r. ⌜ r ≡ positionOf (mbFilter (edge .threshold) (edge .interior) (edge .limit)) (now (rows .entry)) n ⌝ }
+{
+    mb_position(
+        edge,
+        tap16(rows, 0, n),
+        tap16(rows, 1, n),
+        tap16(rows, 2, n),
+        tap16(rows, 3, n),
+        tap16(rows, 4, n),
+        tap16(rows, 5, n),
+        tap16(rows, 6, n),
+        tap16(rows, 7, n),
+    )
+}
+
+// normal_filter_run at a macroblock's edge of 16 samples.
+pub(crate) fn mb_run16(taps: [[i16; 16]; 8], edge: EdgeLimits) -> [[i16; 16]; 8]
     requires { ⌜ SignedRows 8 16 taps ⌝ }
     ensures { λ r. ⌜ r ≡ runOfEight (mbFilter (edge .threshold) (edge .interior) (edge .limit)) 16 taps ⌝ }
 {
-    let r0 = taps[0];
-    let r1 = taps[1];
-    let r2 = taps[2];
-    let r3 = taps[3];
-    let r4 = taps[4];
-    let r5 = taps[5];
-    let r6 = taps[6];
-    let r7 = taps[7];
-    let mut o1 = r1;
-    let mut o2 = r2;
-    let mut o3 = r3;
-    let mut o4 = r4;
-    let mut o5 = r5;
-    let mut o6 = r6;
+    let mut rows = taps;
     for n in 0..16 {
-        let s = mb_position(edge, r0[n], r1[n], r2[n], r3[n], r4[n], r5[n], r6[n], r7[n]);
-        let v1 = s.p2;
-        let v2 = s.p1;
-        let v3 = s.p0;
-        let v4 = s.q0;
-        let v5 = s.q1;
-        let v6 = s.q2;
-        o1[n] = v1;
-        o2[n] = v2;
-        o3[n] = v3;
-        o4[n] = v4;
-        o5[n] = v5;
-        o6[n] = v6;
+        let s = mb_at16(&taps, n, edge);
+        set_inner16(&mut rows, n, s);
     }
-    [r0, o1, o2, o3, o4, o5, o6, r7]
+    rows
 }
 
-fn mb_run8(taps: [[i16; 8]; 8], edge: EdgeLimits) -> [[i16; 8]; 8]
-    requires { ⌜ SignedRows 8 8 taps ⌝ }
-    ensures { λ r. ⌜ r ≡ runOfEight (mbFilter (edge .threshold) (edge .interior) (edge .limit)) 8 taps ⌝ }
+// subblock_filter at position n of eight rows.
+fn sub_at16(rows: &[[i16; 16]; 8], n: usize, edge: EdgeLimits) -> InnerTaps
+    requires { ⌜ SignedRows 8 16 (now rows) ⌝ }
+    requires { ⌜ n < 16 ⌝ }
+    ensures { λ r. ⌜ r ≡ positionOf (subblockFilter (edge .threshold) (edge .interior) (edge .limit)) (now (rows .entry)) n ⌝ }
 {
-    let r0 = taps[0];
-    let r1 = taps[1];
-    let r2 = taps[2];
-    let r3 = taps[3];
-    let r4 = taps[4];
-    let r5 = taps[5];
-    let r6 = taps[6];
-    let r7 = taps[7];
-    let mut o1 = r1;
-    let mut o2 = r2;
-    let mut o3 = r3;
-    let mut o4 = r4;
-    let mut o5 = r5;
-    let mut o6 = r6;
-    for n in 0..8 {
-        let s = mb_position(edge, r0[n], r1[n], r2[n], r3[n], r4[n], r5[n], r6[n], r7[n]);
-        let v1 = s.p2;
-        let v2 = s.p1;
-        let v3 = s.p0;
-        let v4 = s.q0;
-        let v5 = s.q1;
-        let v6 = s.q2;
-        o1[n] = v1;
-        o2[n] = v2;
-        o3[n] = v3;
-        o4[n] = v4;
-        o5[n] = v5;
-        o6[n] = v6;
-    }
-    [r0, o1, o2, o3, o4, o5, o6, r7]
+    sub_position(
+        edge,
+        tap16(rows, 0, n),
+        tap16(rows, 1, n),
+        tap16(rows, 2, n),
+        tap16(rows, 3, n),
+        tap16(rows, 4, n),
+        tap16(rows, 5, n),
+        tap16(rows, 6, n),
+        tap16(rows, 7, n),
+    )
 }
 
-fn sub_run16(taps: [[i16; 16]; 8], edge: EdgeLimits) -> [[i16; 16]; 8]
+// normal_filter_run at an inner edge of 16 samples.
+pub(crate) fn sub_run16(taps: [[i16; 16]; 8], edge: EdgeLimits) -> [[i16; 16]; 8]
     requires { ⌜ SignedRows 8 16 taps ⌝ }
     ensures { λ r. ⌜ r ≡ runOfEight (subblockFilter (edge .threshold) (edge .interior) (edge .limit)) 16 taps ⌝ }
 {
-    let r0 = taps[0];
-    let r1 = taps[1];
-    let r2 = taps[2];
-    let r3 = taps[3];
-    let r4 = taps[4];
-    let r5 = taps[5];
-    let r6 = taps[6];
-    let r7 = taps[7];
-    let mut o1 = r1;
-    let mut o2 = r2;
-    let mut o3 = r3;
-    let mut o4 = r4;
-    let mut o5 = r5;
-    let mut o6 = r6;
+    let mut rows = taps;
     for n in 0..16 {
-        let s = sub_position(edge, r0[n], r1[n], r2[n], r3[n], r4[n], r5[n], r6[n], r7[n]);
-        let v1 = s.p2;
-        let v2 = s.p1;
-        let v3 = s.p0;
-        let v4 = s.q0;
-        let v5 = s.q1;
-        let v6 = s.q2;
-        o1[n] = v1;
-        o2[n] = v2;
-        o3[n] = v3;
-        o4[n] = v4;
-        o5[n] = v5;
-        o6[n] = v6;
+        let s = sub_at16(&taps, n, edge);
+        set_inner16(&mut rows, n, s);
     }
-    [r0, o1, o2, o3, o4, o5, o6, r7]
+    rows
 }
 
-fn sub_run8(taps: [[i16; 8]; 8], edge: EdgeLimits) -> [[i16; 8]; 8]
+// Tap k at position n.
+fn tap8(rows: &[[i16; 8]; 8], k: usize, n: usize) -> i16
+    requires { ⌜ k < 8 ⌝ }
+    requires { ⌜ n < 8 ⌝ }
+    ensures { λ r. ⌜ r ≡ tapOf (now (rows .entry)) k n ⌝ }
+{
+    rows[k][n]
+}
+
+// Tap k at position n becomes v.
+fn set_tap8(rows: &mut [[i16; 8]; 8], k: usize, n: usize, v: i16)
+    requires { ⌜ k < 8 ⌝ }
+    requires { ⌜ n < 8 ⌝ }
+    ensures { λ _. ⌜ now (rows .exit) ≡ storeTap k n v (now (rows .entry)) ⌝ }
+{
+    rows[k][n] = v;
+}
+
+// The inner taps at position n become s.
+fn set_inner8(rows: &mut [[i16; 8]; 8], n: usize, s: InnerTaps)
+    requires { ⌜ n < 8 ⌝ }
+    ensures { λ _. ⌜ now (rows .exit) ≡ storeInner n s (now (rows .entry)) ⌝ }
+{
+    set_tap8(rows, 1, n, s.p2);
+    set_tap8(rows, 2, n, s.p1);
+    set_tap8(rows, 3, n, s.p0);
+    set_tap8(rows, 4, n, s.q0);
+    set_tap8(rows, 5, n, s.q1);
+    set_tap8(rows, 6, n, s.q2);
+}
+
+// mb_filter at position n of eight rows.
+fn mb_at8(rows: &[[i16; 8]; 8], n: usize, edge: EdgeLimits) -> InnerTaps
+    requires { ⌜ SignedRows 8 8 (now rows) ⌝ }
+    requires { ⌜ n < 8 ⌝ }
+    ensures { λ r. ⌜ r ≡ positionOf (mbFilter (edge .threshold) (edge .interior) (edge .limit)) (now (rows .entry)) n ⌝ }
+{
+    mb_position(
+        edge,
+        tap8(rows, 0, n),
+        tap8(rows, 1, n),
+        tap8(rows, 2, n),
+        tap8(rows, 3, n),
+        tap8(rows, 4, n),
+        tap8(rows, 5, n),
+        tap8(rows, 6, n),
+        tap8(rows, 7, n),
+    )
+}
+
+// normal_filter_run at a macroblock's edge of 8 samples.
+pub(crate) fn mb_run8(taps: [[i16; 8]; 8], edge: EdgeLimits) -> [[i16; 8]; 8]
+    requires { ⌜ SignedRows 8 8 taps ⌝ }
+    ensures { λ r. ⌜ r ≡ runOfEight (mbFilter (edge .threshold) (edge .interior) (edge .limit)) 8 taps ⌝ }
+{
+    let mut rows = taps;
+    for n in 0..8 {
+        let s = mb_at8(&taps, n, edge);
+        set_inner8(&mut rows, n, s);
+    }
+    rows
+}
+
+// subblock_filter at position n of eight rows.
+fn sub_at8(rows: &[[i16; 8]; 8], n: usize, edge: EdgeLimits) -> InnerTaps
+    requires { ⌜ SignedRows 8 8 (now rows) ⌝ }
+    requires { ⌜ n < 8 ⌝ }
+    ensures { λ r. ⌜ r ≡ positionOf (subblockFilter (edge .threshold) (edge .interior) (edge .limit)) (now (rows .entry)) n ⌝ }
+{
+    sub_position(
+        edge,
+        tap8(rows, 0, n),
+        tap8(rows, 1, n),
+        tap8(rows, 2, n),
+        tap8(rows, 3, n),
+        tap8(rows, 4, n),
+        tap8(rows, 5, n),
+        tap8(rows, 6, n),
+        tap8(rows, 7, n),
+    )
+}
+
+// normal_filter_run at an inner edge of 8 samples.
+pub(crate) fn sub_run8(taps: [[i16; 8]; 8], edge: EdgeLimits) -> [[i16; 8]; 8]
     requires { ⌜ SignedRows 8 8 taps ⌝ }
     ensures { λ r. ⌜ r ≡ runOfEight (subblockFilter (edge .threshold) (edge .interior) (edge .limit)) 8 taps ⌝ }
 {
-    let r0 = taps[0];
-    let r1 = taps[1];
-    let r2 = taps[2];
-    let r3 = taps[3];
-    let r4 = taps[4];
-    let r5 = taps[5];
-    let r6 = taps[6];
-    let r7 = taps[7];
-    let mut o1 = r1;
-    let mut o2 = r2;
-    let mut o3 = r3;
-    let mut o4 = r4;
-    let mut o5 = r5;
-    let mut o6 = r6;
+    let mut rows = taps;
     for n in 0..8 {
-        let s = sub_position(edge, r0[n], r1[n], r2[n], r3[n], r4[n], r5[n], r6[n], r7[n]);
-        let v1 = s.p2;
-        let v2 = s.p1;
-        let v3 = s.p0;
-        let v4 = s.q0;
-        let v5 = s.q1;
-        let v6 = s.q2;
-        o1[n] = v1;
-        o2[n] = v2;
-        o3[n] = v3;
-        o4[n] = v4;
-        o5[n] = v5;
-        o6[n] = v6;
+        let s = sub_at8(&taps, n, edge);
+        set_inner8(&mut rows, n, s);
     }
-    [r0, o1, o2, o3, o4, o5, o6, r7]
-}
-
-pub(crate) fn normal_filter_run16(
-    taps: [[i16; 16]; 8],
-    hev_threshold: u8,
-    interior_limit: u8,
-    edge_limit: u8,
-    mb_edge: bool,
-) -> [[i16; 16]; 8]
-    requires { ⌜ SignedRows 8 16 taps ⌝ }
-    ensures { λ r. ⌜ r ≡ runOfEight (normalKernel «mb_edge» «hev_threshold» «interior_limit» «edge_limit») 16 taps ⌝ }
-{
-    let edge = EdgeLimits {
-        threshold: hev_threshold,
-        interior: interior_limit,
-        limit: edge_limit,
-    };
-    if mb_edge {
-        mb_run16(taps, edge)
-    } else {
-        sub_run16(taps, edge)
-    }
-}
-
-pub(crate) fn normal_filter_run8(
-    taps: [[i16; 8]; 8],
-    hev_threshold: u8,
-    interior_limit: u8,
-    edge_limit: u8,
-    mb_edge: bool,
-) -> [[i16; 8]; 8]
-    requires { ⌜ SignedRows 8 8 taps ⌝ }
-    ensures { λ r. ⌜ r ≡ runOfEight (normalKernel «mb_edge» «hev_threshold» «interior_limit» «edge_limit») 8 taps ⌝ }
-{
-    let edge = EdgeLimits {
-        threshold: hev_threshold,
-        interior: interior_limit,
-        limit: edge_limit,
-    };
-    if mb_edge {
-        mb_run8(taps, edge)
-    } else {
-        sub_run8(taps, edge)
-    }
+    rows
 }
 
 pub(crate) fn simple_run(taps: [[i16; 16]; 4], edge_limit: u8) -> [[i16; 16]; 4]

@@ -26,7 +26,9 @@ fn normal_luma(
     inside: bool,
 )
     requires { ⌜ Square 16 stride (16 * row * stride + 16 * column) row column (length (now plane)) ⌝ }
-    ensures { λ _. ⌜ now (plane .exit) ≡ lumaFrom (outerOf limits) (innerOf limits) inside 4 stride (16 * row * stride + 16 * column) (16 * row * stride + 16 * column) (16 * row * stride + 16 * column) row column (now (plane .entry)) ⌝ }
+    ensures { λ _. ⌜ now (plane .exit)
+        ≡ lumaFrom (outerOf limits) (innerOf limits) inside 4 stride (16 * row * stride + 16 * column)
+        (16 * row * stride + 16 * column) (16 * row * stride + 16 * column) row column (now (plane .entry)) ⌝ }
 {
     let corner = 16 * row * stride + 16 * column;
     normal::luma(plane, stride, corner, row, column, limits, inside);
@@ -58,7 +60,9 @@ fn simple_luma(
     inside: bool,
 )
     requires { ⌜ Square 16 stride (16 * row * stride + 16 * column) row column (length (now plane)) ⌝ }
-    ensures { λ _. ⌜ now (plane .exit) ≡ lumaFrom (simpleSegment (limits .«mbedge_limit»)) (simpleSegment (limits .«sub_bedge_limit»)) inside 2 stride (16 * row * stride + 16 * column) (16 * row * stride + 16 * column + 2) (16 * row * stride + 16 * column + 2 * stride) row column (now (plane .entry)) ⌝ }
+    ensures { λ _. ⌜ now (plane .exit)
+        ≡ lumaFrom (simpleSegment (limits .«mbedge_limit»)) (simpleSegment (limits .«sub_bedge_limit»)) inside 2 stride (16 * row * stride + 16 * column)
+        (16 * row * stride + 16 * column + 2) (16 * row * stride + 16 * column + 2 * stride) row column (now (plane .entry)) ⌝ }
 {
     let corner = 16 * row * stride + 16 * column;
     simple::luma(
@@ -86,7 +90,8 @@ fn filter_with(
 )
     requires { ⌜ Sound layout (now y) (now u) (now v) ⌝ }
     requires { ⌜ m < macroblocks (gridOf layout) ⌝ }
-    ensures { λ _. ⌜ planesOf (now (y .exit)) (now (u .exit)) (now (v .exit)) ≡ filterMacroblock (gridOf layout) (λ _. planWith simple limits inside) m (planesOf (now (y .entry)) (now (u .entry)) (now (v .entry))) ⌝ }
+    ensures { λ _. ⌜ planesOf (now (y .exit)) (now (u .exit)) (now (v .exit))
+        ≡ filterMacroblock (gridOf layout) (λ _. planWith simple limits inside) m (planesOf (now (y .entry)) (now (u .entry)) (now (v .entry))) ⌝ }
 {
     let row = m / layout.mb_cols;
     let column = m % layout.mb_cols;
@@ -112,7 +117,8 @@ pub(crate) fn filter_macroblock(
 )
     requires { ⌜ Sound layout (now y) (now u) (now v) ⌝ }
     requires { ⌜ m < macroblocks (gridOf layout) ⌝ }
-    ensures { λ _. ⌜ planesOf (now (y .exit)) (now (u .exit)) (now (v .exit)) ≡ filterMacroblock (gridOf layout) (λ _. planAt config level inside) m (planesOf (now (y .entry)) (now (u .entry)) (now (v .entry))) ⌝ }
+    ensures { λ _. ⌜ planesOf (now (y .exit)) (now (u .exit)) (now (v .exit))
+        ≡ filterMacroblock (gridOf layout) (λ _. planAt config level inside) m (planesOf (now (y .entry)) (now (u .entry)) (now (v .entry))) ⌝ }
 {
     let limits = LoopFilterParams::derive(level, config.sharpness_level, config.key_frame);
     if level != 0 {

@@ -24,7 +24,10 @@ pub fn settings(
     other_mv_mode_delta: i16,
     split_mv_mode_delta: i16,
 ) -> FrameFilterConfig
-    ensures { λ r. ⌜ r ≡ settingsOf simple «key_frame» «loop_filter_level» «sharpness_level» «segmentation_enabled» «segment_abs» «segment_level_0» «segment_level_1» «segment_level_2» «segment_level_3» «delta_enabled» «ref_delta_current» «bpred_mode_delta» «ref_delta_last» «ref_delta_golden» «ref_delta_altref» «zero_mv_mode_delta» «other_mv_mode_delta» «split_mv_mode_delta» ⌝ }
+    ensures { λ r. ⌜ r
+        ≡ settingsOf simple «key_frame» «loop_filter_level» «sharpness_level» «segmentation_enabled» «segment_abs»
+        «segment_level_0» «segment_level_1» «segment_level_2» «segment_level_3» «delta_enabled» «ref_delta_current» «bpred_mode_delta»
+        «ref_delta_last» «ref_delta_golden» «ref_delta_altref» «zero_mv_mode_delta» «other_mv_mode_delta» «split_mv_mode_delta» ⌝ }
 {
     let segment_lf_level = [
         segment_level_0,

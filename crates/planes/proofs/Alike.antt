@@ -8,7 +8,7 @@ use lib.ListN.{length, getD}
 use lib.Seq.{ext-getD}
 use Rattle.kernels.specs.Segment.{taps, segment}
 use Rattle.planes.specs.Steps.{steps}
-use Rattle.planes.specs.Planes.{Plane, luma, chromaU, chromaV, Planes, Grid, side, plane, onPlane, Sample, sample, macroblocks, gridRow, gridColumn, StridesHold}
+use Rattle.planes.specs.Planes.{Plane, luma, chromaU, chromaV, Planes, Grid, side, plane, onPlane, Sample, sample, macroblocks, gridRow, gridColumn}
 use Rattle.planes.specs.Edges.{Edge, edgeTap, filterEdge, places}
 use Rattle.planes.specs.Macroblock.{Plan, edgesAt, filterEdges, filterMacroblock}
 use Rattle.planes.specs.Reach.{Reach}
@@ -140,9 +140,9 @@ macroblock-alike g plan m D th =
     (all-map th (edges-fit (plan m) (gridRow g m) (gridColumn g m)))
 
 -- a step's planes differ from those before it at most in its reach
-pub step-alike : (g : Grid) (plan : ℕ → Plan) → StridesHold g → (m : ℕ) → m < macroblocks g → (p : Planes) → Alike (Reach g m) (filterMacroblock g plan m p) p
+pub step-alike : (g : Grid) (plan : ℕ → Plan) (m : ℕ) → m < macroblocks g → (p : Planes) → Alike (Reach g m) (filterMacroblock g plan m p) p
 unfolding Alike In Local
-step-alike g plan ok m hm p q = record {
+step-alike g plan m hm p q = record {
   len = length-macroblock g plan m p q;
-  same = λ i n. macroblock-local g plan ok m p (record { on = q; index = i }) hm n;
+  same = λ i n. macroblock-local g plan m p (record { on = q; index = i }) hm n;
 }

@@ -11,7 +11,7 @@ use Rattle.kernels.specs.Segment.{Kernel, half, taps}
 use Rattle.planes.specs.Planes.{Plane, luma, chromaU, chromaV, Grid, side, stride, macroblocks, gridColumn, StridesHold}
 use Rattle.planes.specs.Edges.{Direction, vertical, horizontal, tapAt, firstRow, firstColumn, Edge, edgeTap, Place, border, within, borders, insides, places}
 use Rattle.planes.specs.Macroblock.{Plan, leave, filter, filtered, lead, edgeAt, edgesAt}
-use Rattle.planes.specs.Reach.{Box, Near}
+use Rattle.planes.specs.Reach.{Stands, Box, Near}
 use Rattle.planes.proofs.AllOf.{All, none, _&_, all-append, all-only}
 use Rattle.kernels.proofs.KernelLaws.{half-most}
 
@@ -55,12 +55,14 @@ module _ (z s top left offset h : ℕ) (most : h ≤ 4) (inside : offset + 4 ≤
   tap-in vertical j t i back hj q eq = let (er, ec) = row-column s (top + j) (left + offset - h + t) i (omega arith) eq in omega arith
   tap-in horizontal j t i back hj q eq = let (er, ec) = row-column s (top + offset - h + t) (left + j) i (omega arith) eq in omega arith
 
-  -- an inner tap is near the square
-  inner-near : (d : Direction) (j t i : ℕ) → h ≤ lead d top left + offset → j < z → 1 ≤ t → t + 1 < h + h
-      → i ≡ tapAt d s (firstRow d top offset h) (firstColumn d left offset h) j t → Near z top left (i / s) (i % s)
-  unfolding firstRow firstColumn Near Box
-  inner-near vertical j t i back hj p q eq = let (er, ec) = row-column s (top + j) (left + offset - h + t) i (omega arith) eq in inl (omega arith)
-  inner-near horizontal j t i back hj p q eq = let (er, ec) = row-column s (top + offset - h + t) (left + j) i (omega arith) eq in inr (omega arith)
+-- an inner tap is near the square
+inner-near : (z s top left offset h : ℕ) → h ≤ 4 → offset + 4 ≤ z → (d : Direction) (j t i : ℕ) → h ≤ lead d top left + offset → j < z → 1 ≤ t → t + 1 < h + h
+    → i ≡ tapAt d s (firstRow d top offset h) (firstColumn d left offset h) j t → Stands s i (Near z top left)
+unfolding firstRow firstColumn Near Box
+inner-near z s top left offset h most inside vertical j t i back hj p q eq =
+    record { row = top + j; column = left + offset - h + t; at = eq; there = inl (omega arith) }
+inner-near z s top left offset h most inside horizontal j t i back hj p q eq =
+    record { row = top + offset - h + t; column = left + j; at = eq; there = inr (omega arith) }
 
 -- two positions of an edge share no tap (RFC 6386, section 15.1, lines 4807 and 4808)
 pub positions-apart : (d : Direction) (z top left j j′ row column : ℕ) → Tap d z top left j row column → Tap d z top left j′ row column → j ≡ j′
@@ -82,12 +84,13 @@ module _ (g : Grid) (r c : ℕ) (e : Edge) (f : Fits r c e) (w : side (e .on) * 
       tap-in (side (e .on)) (stride g (e .on)) (side (e .on) * r) (side (e .on) * c) (e .offset) (half (e .kernel)) (half-most (e .kernel)) (f .inside) w
       (e .direction) j t (edgeTap g r c e j t) (f .back) hj q refl
 
-  pub edge-near : (j t i : ℕ) → j < side (e .on) → 1 ≤ t → t + 1 < taps (e .kernel) → i ≡ edgeTap g r c e j t
-      → Near (side (e .on)) (side (e .on) * r) (side (e .on) * c) (i / stride g (e .on)) (i % stride g (e .on))
-  unfolding edgeTap taps
-  edge-near j t i hj p q eq =
-      inner-near (side (e .on)) (stride g (e .on)) (side (e .on) * r) (side (e .on) * c) (e .offset) (half (e .kernel)) (half-most (e .kernel)) (f .inside) w
-      (e .direction) j t i (f .back) hj p q eq
+-- where an inner tap stands
+pub edge-near : (g : Grid) (r c : ℕ) (e : Edge) → Fits r c e → (j t i : ℕ) → j < side (e .on) → 1 ≤ t → t + 1 < taps (e .kernel) → i ≡ edgeTap g r c e j t
+    → Stands (stride g (e .on)) i (Near (side (e .on)) (side (e .on) * r) (side (e .on) * c))
+unfolding edgeTap taps
+edge-near g r c e f j t i hj p q eq =
+    inner-near (side (e .on)) (stride g (e .on)) (side (e .on) * r) (side (e .on) * c) (e .offset) (half (e .kernel)) (half-most (e .kernel)) (f .inside)
+    (e .direction) j t i (f .back) hj p q eq
 
 -- a place that lies in its square
 unfoldable pub InSquare : Place → Type 0

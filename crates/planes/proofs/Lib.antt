@@ -3,6 +3,7 @@ pub mod AllOf
 pub mod Steps
 pub mod Fits
 pub mod Local
+pub mod Divided
 pub mod Alike
 pub mod ReadFirst
 pub mod StepParts

@@ -2,20 +2,20 @@
 use mathlib.Core.Path.{_≡_, refl, ap, _∙_}
 use mathlib.Core.Logic.{inl, inr}
 use mathlib.Core.List.{List, [], _∷_}
-use Prim.Native.Nat.{ℕ, _+_, _*_, _/_, _%_, _≤_, _<_}
+use Prim.Native.Nat.{ℕ, _+_, _*_, _≤_, _<_}
 use native.Mathlib.Nat.{mod-lt, div-lt-iff-lt-mul, mul-comm}
 use native.Mathlib.Omega.{arith}
 use lib.ListN.{getD}
 use Rattle.kernels.specs.Segment.{taps, segment}
 use Rattle.planes.specs.Steps.{Clear}
-use Rattle.planes.specs.Planes.{Plane, luma, chromaU, chromaV, Planes, Grid, side, stride, plane, onPlane, Sample, sample, rowOf, columnOf, macroblocks, gridRow, gridColumn, StridesHold}
+use Rattle.planes.specs.Planes.{Plane, luma, chromaU, chromaV, Planes, Grid, side, stride, plane, onPlane, Sample, sample, macroblocks, gridRow, gridColumn}
 use Rattle.planes.specs.Edges.{Edge, edgeTap, filterEdge, places}
 use Rattle.planes.specs.Macroblock.{Plan, edgesAt, filterEdges, filterMacroblock}
-use Rattle.planes.specs.Reach.{Box, Near, Reach, Own, InGrid}
+use Rattle.planes.specs.Reach.{Stands, Box, Near, Reach, Own, InGrid}
 use Rattle.planes.proofs.AllOf.{All, none, _&_}
 use Rattle.planes.proofs.Steps.{Local, steps-keep}
 use Rattle.kernels.proofs.SegmentLaws.{segment-other}
-use Rattle.planes.proofs.Fits.{Wide, wide, square-within, factor-positive, Fits, edge-near, edges-fit}
+use Rattle.planes.proofs.Fits.{square-within, factor-positive, Fits, edge-near, edges-fit}
 
 -- ---- an edge
 
@@ -34,10 +34,10 @@ edge-other g r c e l i h =
     0 (side (e .on)) l i (omega arith) (λ j a b. h j b)
 
 -- so it writes near its macroblock's square alone
-pub edge-local : (g : Grid) (r c : ℕ) (e : Edge) (l : List ℕ) (i : ℕ) → Fits r c e → side (e .on) * c + side (e .on) ≤ stride g (e .on)
-    → ¬ Near (side (e .on)) (side (e .on) * r) (side (e .on) * c) (i / stride g (e .on)) (i % stride g (e .on)) → getD (filterEdge g r c e l) i 0 ≡ getD l i 0
+pub edge-local : (g : Grid) (r c : ℕ) (e : Edge) (l : List ℕ) (i : ℕ) → Fits r c e
+    → ¬ Stands (stride g (e .on)) i (Near (side (e .on)) (side (e .on) * r) (side (e .on) * c)) → getD (filterEdge g r c e l) i 0 ≡ getD l i 0
 unfolding Writes
-edge-local g r c e l i f w far = edge-other g r c e l i (λ j hj (t, p, q, eq). far (edge-near g r c e f w j t i hj p q eq))
+edge-local g r c e l i f far = edge-other g r c e l i (λ j hj (t, p, q, eq). far (edge-near g r c e f j t i hj p q eq))
 
 -- ---- a macroblock's step
 
@@ -57,21 +57,20 @@ on-other q f p x R h r = go q (x .on) h r
     go chromaV chromaU h r = refl
     go chromaV chromaV h r = h r
 
-pub edges-local : (g : Grid) (r c : ℕ) (es : List Edge) → All (Fits r c) es → Wide g c → (p : Planes) (x : Sample)
-    → ¬ Near (side (x .on)) (side (x .on) * r) (side (x .on) * c) (rowOf g x) (columnOf g x) → sample (filterEdges g r c es p) x ≡ sample p x
-unfolding filterEdges Wide
-edges-local g r c [] none w p x far = refl
-edges-local g r c (e ∷ es) (f & fs) w p x far =
-    edges-local g r c es fs w (onPlane (e .on) (filterEdge g r c e) p) x far
-    ∙ on-other (e .on) (filterEdge g r c e) p x (λ q. ¬ Near (side q) (side q * r) (side q * c) (x .index / stride g q) (x .index % stride g q))
-    (λ far′. edge-local g r c e (plane (e .on) p) (x .index) f (w (e .on)) far′) far
+pub edges-local : (g : Grid) (r c : ℕ) (es : List Edge) → All (Fits r c) es → (p : Planes) (x : Sample)
+    → ¬ Stands (stride g (x .on)) (x .index) (Near (side (x .on)) (side (x .on) * r) (side (x .on) * c)) → sample (filterEdges g r c es p) x ≡ sample p x
+unfolding filterEdges
+edges-local g r c [] none p x far = refl
+edges-local g r c (e ∷ es) (f & fs) p x far =
+    edges-local g r c es fs (onPlane (e .on) (filterEdge g r c e) p) x far
+    ∙ on-other (e .on) (filterEdge g r c e) p x (λ q. ¬ Stands (stride g q) (x .index) (Near (side q) (side q * r) (side q * c)))
+    (λ far′. edge-local g r c e (plane (e .on) p) (x .index) f far′) far
 
 -- a sample that macroblock m cannot reach keeps its value in m's step
-pub macroblock-local : (g : Grid) (plan : ℕ → Plan) → StridesHold g → Local sample (Reach g) (filterMacroblock g plan) (macroblocks g)
+pub macroblock-local : (g : Grid) (plan : ℕ → Plan) → Local sample (Reach g) (filterMacroblock g plan) (macroblocks g)
 unfolding Local Reach filterMacroblock
-macroblock-local g plan ok m p x hm far =
-    edges-local g (gridRow g m) (gridColumn g m) (edgesAt (plan m) (gridRow g m) (gridColumn g m) places) (edges-fit (plan m) (gridRow g m) (gridColumn g m))
-    (wide g ok m hm) p x far
+macroblock-local g plan m p x hm far =
+    edges-local g (gridRow g m) (gridColumn g m) (edgesAt (plan m) (gridRow g m) (gridColumn g m) places) (edges-fit (plan m) (gridRow g m) (gridColumn g m)) p x far
 
 -- its own plan alone counts
 pub same-plan : (g : Grid) (plan plan′ : ℕ → Plan) (m : ℕ) (p : Planes) → plan m ≡ plan′ m → filterMacroblock g plan m p ≡ filterMacroblock g plan′ m p
@@ -82,12 +81,12 @@ same-plan g plan plan′ m p e = ap (λ (z : Plan). filterEdges g (gridRow g m) 
 
 pub own-reach : (g : Grid) (m : ℕ) (x : Sample) → Own g m x → Reach g m x
 unfolding Own Reach Near Box
-own-reach g m x o = inl (omega arith)
+own-reach g m x o = record { row = o .row; column = o .column; at = o .at; there = inl (omega (arith, o .there)) }
 
 -- what a macroblock can reach lies in the grid
 pub reach-in-grid : (g : Grid) (m : ℕ) (x : Sample) → m < macroblocks g → Reach g m x → InGrid g x
 unfolding Reach Near Box InGrid
-reach-in-grid g m x hm near = go near
+reach-in-grid g m x hm near = record { row = near .row; column = near .column; at = near .at; there = go (near .there) }
   where
     z : ℕ
     z = side (x .on)
@@ -98,6 +97,6 @@ reach-in-grid g m x hm near = go near
     right : z * gridColumn g m + z ≤ z * g .columns
     right = square-within z (gridColumn g m) (g .columns) (mod-lt m (factor-positive (g .columns) (g .rows) m hm))
 
-    go : Near z (z * gridRow g m) (z * gridColumn g m) (rowOf g x) (columnOf g x) → (rowOf g x < z * g .rows) × (columnOf g x < z * g .columns)
+    go : Near z (z * gridRow g m) (z * gridColumn g m) (near .row) (near .column) → Box 0 (z * g .rows) 0 (z * g .columns) (near .row) (near .column)
     go (inl b) = omega (arith, low, right)
     go (inr b) = omega (arith, low, right)

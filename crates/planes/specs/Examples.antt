@@ -10,7 +10,7 @@ use Rattle.kernels.specs.Numbers.{clamp, u2s, s2u, shr}
 use Rattle.kernels.specs.Kernels as kernels
 use Rattle.kernels.specs.Segment.{Kernel, simpleSegment, subblockFilter, mbFilter, half, taps, smooth, gather, scatter, segment}
 use Rattle.planes.specs.Steps.{steps, Clear}
-use Rattle.planes.specs.Planes.{Planes, Grid, side, Sample, columnOf}
+use Rattle.planes.specs.Planes.{Plane, luma, chromaU, chromaV, Planes, Grid, side, stride}
 use Rattle.planes.specs.Edges.{vertical, horizontal, firstRow, firstColumn, edgeTap, filterEdge, borders, insides, places}
 use Rattle.planes.specs.Macroblock.{Plan, leave, filter, only, edgeAt, edgesAt, filterEdges, filterMacroblock}
 use Rattle.planes.specs.Reach.{Box, Near, Reach}
@@ -118,13 +118,32 @@ unfolding filterMacroblock places borders insides edgesAt edgeAt only filterEdge
 figure-M chroma outer inner p = refl
 
 -- figure N: two columns, one row, halted after 1: luma columns 0 to 12 and chroma columns 0 to 4 are final
-pub figure-N : (x : Sample) → columnOf pair x + 4 ≤ side (x .on) → Clear (Reach pair) 1 2 x
+pub figure-N : (q : Plane) (row column : ℕ) → column + 4 ≤ side q → Clear (Reach pair) 1 2 (record { on = q; index = row * stride pair q + column })
 unfolding Clear Reach Near Box
-figure-N x h m a b = go m (omega arith)
+figure-N q row column h m a b = go q h m (omega arith)
   where
-    go : (m : ℕ) → m ≡ 1 → ¬ Reach pair m x
-    go m e near = far (rw e at near)
+    go : (q : Plane) → column + 4 ≤ side q → (m : ℕ) → m ≡ 1 → ¬ Reach pair m (record { on = q; index = row * stride pair q + column })
+    go luma h m e near = far (rw e at near)
       where
-        far : ¬ Reach pair 1 x
-        far (inl c) = omega arith
-        far (inr c) = omega arith
+        far : ¬ Reach pair 1 (record { on = luma; index = row * stride pair luma + column })
+        far r = by (r .there)
+          where
+            by : Near (side luma) 0 (side luma) (r .row) (r .column) → ⊥
+            by (inl c) = omega (arith, c, r .at)
+            by (inr c) = omega (arith, c, r .at)
+    go chromaU h m e near = far (rw e at near)
+      where
+        far : ¬ Reach pair 1 (record { on = chromaU; index = row * stride pair chromaU + column })
+        far r = by (r .there)
+          where
+            by : Near (side chromaU) 0 (side chromaU) (r .row) (r .column) → ⊥
+            by (inl c) = omega (arith, c, r .at)
+            by (inr c) = omega (arith, c, r .at)
+    go chromaV h m e near = far (rw e at near)
+      where
+        far : ¬ Reach pair 1 (record { on = chromaV; index = row * stride pair chromaV + column })
+        far r = by (r .there)
+          where
+            by : Near (side chromaV) 0 (side chromaV) (r .row) (r .column) → ⊥
+            by (inl c) = omega (arith, c, r .at)
+            by (inr c) = omega (arith, c, r .at)

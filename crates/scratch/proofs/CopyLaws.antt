@@ -15,6 +15,7 @@ use Rattle.planes.specs.Steps.{steps}
 use Rattle.planes.specs.Planes.{Plane, luma, chromaU, chromaV, Planes, Grid, side, stride, plane, Sample, sample, rowOf, columnOf, StridesHold, PlanesHold}
 use Rattle.planes.specs.Layout.{planesOf}
 use Rattle.planes.specs.Reach.{InGrid}
+use Rattle.planes.proofs.Divided.{InGridDivided, grid-divided}
 use Rattle.planes.specs.GridRefusals.{zeroGrid, pastGrid, gridRefusal}
 use Rattle.planes.proofs.Steps.{steps-suc, steps-inv}
 use Rattle.planes.proofs.Fits.{row-column}
@@ -127,8 +128,8 @@ planes-same p p′ len same = λ i. record { y = eq luma i; u = eq chromaU i; v 
     eq : (q : Plane) → plane q p ≡ plane q p′
     eq q = ext-getD 0 (plane q p) (plane q p′) (len q) (λ i _. same (record { on = q; index = i }))
 
-pub in-or-out : (g : Grid) (x : Sample) → InGrid g x ⊎ ¬ InGrid g x
-unfolding InGrid
+pub in-or-out : (g : Grid) (x : Sample) → InGridDivided g x ⊎ ¬ InGridDivided g x
+unfolding InGridDivided
 in-or-out g x = by (ltb (rowOf g x) (side (x .on) * g .rows)) (ltb (columnOf g x) (side (x .on) * g .columns)) refl refl
   where
     by : (a b : Bool) → ltb (rowOf g x) (side (x .on) * g .rows) ≡ a → ltb (columnOf g x) (side (x .on) * g .columns) ≡ b
@@ -138,8 +139,8 @@ in-or-out g x = by (ltb (rowOf g x) (side (x .on) * g .rows)) (ltb (columnOf g x
     by false b e f = inr (λ h. omega (arith, ltb-false (rowOf g x) (side (x .on) * g .rows) e))
 
 module _ (g : Grid) (p t : Planes) (ok : StridesHold g) where
-  pub copied-in : PlanesHold g t → (x : Sample) → InGrid g x → sample (copyGrid g p t) x ≡ sample p x
-  unfolding StridesHold PlanesHold InGrid
+  pub copied-in : PlanesHold g t → (x : Sample) → InGridDivided g x → sample (copyGrid g p t) x ≡ sample p x
+  unfolding StridesHold PlanesHold InGridDivided
   copied-in held x h =
       let q = x .on in
       let s = stride g q in
@@ -151,8 +152,8 @@ module _ (g : Grid) (p t : Planes) (ok : StridesHold g) where
       (omega (arith, row-in (side q * g .columns) s (i / s) (side q * g .rows) (length (plane q t)) (h .0) (held q)))
       ∙ ap (λ (j : ℕ). getD (plane q p) j 0) e
 
-  pub copied-out : (x : Sample) → ¬ InGrid g x → sample (copyGrid g p t) x ≡ sample t x
-  unfolding StridesHold InGrid
+  pub copied-out : (x : Sample) → ¬ InGridDivided g x → sample (copyGrid g p t) x ≡ sample t x
+  unfolding StridesHold InGridDivided
   copied-out x out =
       let q = x .on in
       let s = stride g q in
@@ -160,6 +161,10 @@ module _ (g : Grid) (p t : Planes) (ok : StridesHold g) where
       ap (λ (l : List ℕ). getD l i 0) (copied-plane g p t q)
       ∙ rows-other (plane q p) s (side q * g .columns) (side q * g .rows) (plane q t) i
       (λ r k a b e. let (er, ek) = row-column s r k i (omega (arith, ok q)) e in out (omega arith))
+
+  -- what lies outside the grid stays
+  pub outside-stays : (x : Sample) → ¬ InGrid g x → sample (copyGrid g p t) x ≡ sample t x
+  outside-stays x out = copied-out x (λ i. out (grid-divided g x i))
 
 -- ---- a grid without a macroblock
 

@@ -16,7 +16,7 @@ use Rattle.planes.specs.Steps.{steps}
 use Rattle.planes.specs.Planes.{Plane, luma, chromaU, chromaV, Planes, Grid, side, stride, plane, onPlane, Sample, macroblocks, gridRow, gridColumn, StridesHold, PlanesHold}
 use Rattle.planes.specs.Edges.{Direction, vertical, horizontal, Edge, edgeTap, filterEdge, places}
 use Rattle.planes.specs.Macroblock.{Plan, edgesAt, filterEdges, filterMacroblock}
-use Rattle.planes.specs.Reach.{InGrid}
+use Rattle.planes.proofs.Divided.{InGridDivided, grid-divides}
 use Rattle.planes.proofs.AllOf.{All, none, _&_}
 use Rattle.planes.proofs.Steps.{steps-rel}
 use Rattle.planes.proofs.Fits.{Fits, Tap, Wide, wide, edge-tap, edges-fit, square-within, factor-positive}
@@ -65,7 +65,7 @@ segment-shares D k at l l′ h s =
 -- ---- planes
 
 abbrev Inside : Grid → Plane → ℕ → Type 0
-Inside g q i = InGrid g (record { on = q; index = i })
+Inside g q i = InGridDivided g (record { on = q; index = i })
 
 unfoldable pub SameGrid : Grid → Planes → Planes → Type 0
 SameGrid g p p′ = (q : Plane) → Shares (Inside g q) (plane q p) (plane q p′)
@@ -92,7 +92,7 @@ module _ (g : Grid) (r c : ℕ) (low : r < g .rows) (right : c < g .columns) whe
   tap-inside horizontal q j row column hj t = omega (arith, square-within (side q) r (g .rows) low, square-within (side q) c (g .columns) right)
 
   edge-inside : Wide g c → (e : Edge) → Fits r c e → (j : ℕ) → j < side (e .on) → (t : ℕ) → t < taps (e .kernel) → Inside g (e .on) (edgeTap g r c e j t)
-  unfolding InGrid Wide
+  unfolding InGridDivided Wide
   edge-inside w e f j hj t ht =
       tap-inside (e .direction) (e .on) j (edgeTap g r c e j t / stride g (e .on)) (edgeTap g r c e j t % stride g (e .on)) hj (edge-tap g r c e f (w (e .on)) j t hj ht)
 
@@ -124,8 +124,8 @@ module _ (g : Grid) (plan : ℕ → Plan) (ok : StridesHold g) where
   steps-same = steps-rel (SameGrid g) (filterMacroblock g plan) (filterMacroblock g plan) (macroblocks g) macroblock-same
 
   -- a sample of the grid lies in planes that hold it
-  inside-length : (p : Planes) → PlanesHold g p → (x : Sample) → InGrid g x → x .index < length (plane (x .on) p)
-  unfolding PlanesHold InGrid
+  inside-length : (p : Planes) → PlanesHold g p → (x : Sample) → InGridDivided g x → x .index < length (plane (x .on) p)
+  unfolding PlanesHold InGridDivided
   inside-length p held x h =
       let q = x .on in
       omega (arith, div-add-mod' (x .index) (stride g q), row-in (side q * g .columns) (stride g q) (x .index / stride g q) (side q * g .rows) (length (plane q p)) (h .0) (held q))
@@ -147,5 +147,5 @@ module _ (g : Grid) (plan : ℕ → Plan) (ok : StridesHold g) where
       (λ q. length-steps g plan k n (copyGrid g p t) q ∙ copied-length g p t q ∙ sym (copied-length g (steps (filterMacroblock g plan) k n p) t q))
       (λ x. ⊎-elim
       (λ h. steps-same k n b (copyGrid g p t) p (copy-same p t hp ht) (x .on) .same (x .index) h ∙ sym (copied-in g (steps (filterMacroblock g plan) k n p) t ok ht x h))
-      (λ h. outside-keeps g plan ok k n (copyGrid g p t) x b h ∙ copied-out g p t ok x h ∙ sym (copied-out g (steps (filterMacroblock g plan) k n p) t ok x h))
+      (λ h. outside-keeps g plan k n (copyGrid g p t) x b (λ i. h (grid-divides g ok x i)) ∙ copied-out g p t ok x h ∙ sym (copied-out g (steps (filterMacroblock g plan) k n p) t ok x h))
       (in-or-out g x))

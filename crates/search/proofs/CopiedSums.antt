@@ -7,7 +7,7 @@ use native.Mathlib.Omega.{arith}
 use lib.ListN.{getD}
 use Rattle.planes.specs.GridRefusals.{zeroGrid, pastGrid}
 use Rattle.planes.specs.Planes.{Plane, luma, chromaU, chromaV, Planes, Grid, side, stride, plane, StridesHold, PlanesHold}
-use Rattle.planes.specs.Reach.{InGrid}
+use Rattle.planes.proofs.Divided.{InGridDivided}
 use Rattle.planes.proofs.Fits.{row-column}
 use Rattle.planes.proofs.PastGrid.{Sound, with-grid}
 use Rattle.sums.specs.Source.{Source}
@@ -32,7 +32,7 @@ rows-same a a′ s b t w (suc n) h =
 
 module _ (g : Grid) (x t : Planes) (s : Source) (et : pastGrid g t 0 ≡ 0) (es : pastSource g s 0 ≡ 0) where
   plane-copy : Sound g t → (q : Plane) → planeSum g (copyGrid g x t) s q ≡ planeSum g x s q
-  unfolding planeSum StridesHold PlanesHold InGrid
+  unfolding planeSum StridesHold PlanesHold InGridDivided
   plane-copy ok q =
       rows-same (plane q (copyGrid g x t)) (plane q x) (stride g q) (plane q (s .samples)) (of.strideOf s q) (of.wide s q) (of.high s q)
       (λ r k a b.

@@ -55,6 +55,14 @@ storeSix n s at t = steps (λ i. storeRowOf n s at (1 + i) t) 0 6
 unfoldable pub storeFour : (n stride at : ℕ) → List (List ℤ) → List ℕ → List ℕ
 storeFour n s at t = steps (λ i. storeRowOf n s at (2 + i) t) 0 4
 
+-- tap j of row k
+abbrev pub tapOf : List (List ℤ) → (k j : ℕ) → ℤ
+tapOf t k j = getD (getD t k []) j (pos 0)
+
+-- v stored there
+abbrev pub storeTap : (k j : ℕ) → ℤ → List (List ℤ) → List (List ℤ)
+storeTap k j v t = set t k (set (getD t k []) j v)
+
 -- ---- a kernel on taps
 
 -- the inner taps of a segment of eight after the kernel
@@ -67,6 +75,11 @@ innerTaps k p3 p2 p1 p0 q0 q1 q2 q3 =
 unfoldable pub edgeTaps : Kernel → (p1 p0 q0 q1 : ℤ) → EdgeTaps
 edgeTaps k p1 p0 q0 q1 =
     let vs = smooth k (s2u p1 ∷ s2u p0 ∷ s2u q0 ∷ s2u q1 ∷ []) in record { p0 = u2s (getD vs 1 0); q0 = u2s (getD vs 2 0) }
+
+-- the inner taps stored at position j of eight rows
+unfoldable pub storeInner : (j : ℕ) → InnerTaps → List (List ℤ) → List (List ℤ)
+storeInner j s t =
+    storeTap 6 j (s .q2) (storeTap 5 j (s .q1) (storeTap 4 j (s .q0) (storeTap 3 j (s .p0) (storeTap 2 j (s .p1) (storeTap 1 j (s .p2) t)))))
 
 -- eight taps, or four, in -128..127
 pub record SignedEight (p3 p2 p1 p0 q0 q1 q2 q3 : ℤ) : Type 0 where

@@ -4,7 +4,7 @@ use denote.Ref.{now}
 use native.Mathlib.Omega.{arith}
 use Prim.Native.Nat.{ℕ, _<_}
 use lib.ListN.{getD}
-use Rattle.edges.proofs.RowRuns.{taps-signed, either-signed, mb-either, sub-either}
+use Rattle.edges.proofs.RowRuns.{taps-signed, mb-signed, sub-signed, mb-either, sub-either}
 use borrow.Author.Needs.{needs}
 use Rattle.edges.proofs.horizontal.h_run8.Statement.{statement}
 use Rattle.edges.proofs.horizontal.h_run8.Tie as tie
@@ -15,24 +15,31 @@ bytes c i = omega (arith, c .slice-known .given i)
 gather-rows8-requires : tie.Need-gather-rows8-requires
 gather-rows8-requires c κs = search needs
 
-normal-filter-run8-requires : tie.Need-normal-filter-run8-requires
-normal-filter-run8-requires c κs =
-    let x = c .before .before .before .args in
-    taps-signed (x .hev-threshold) (x .interior-limit) (x .edge-limit) 8 (x .stride) (x .at) (now (x .plane)) (bytes (c .before .before)) (c .gather-rows8 .result) (c .gather-rows8 .result) (c .gather-rows8 .ensures)
+mb-run8-requires : tie.Need-mb-run8-requires
+mb-run8-requires c κs =
+    let x = c .before .before .before .before .args in
+    let g = c .before .gather-rows8 in
+    taps-signed (x .hev-threshold) (x .interior-limit) (x .edge-limit) 8 (x .stride) (x .at) (now (x .plane)) (bytes (c .before .before .before)) (g .result) (g .result) (g .ensures)
 
 scatter-six8-requires : tie.Need-scatter-six8-requires
 scatter-six8-requires c κs =
     let x = c .before .before .before .before .before .before .args in
-    let r = c .before .before .normal-filter-run8 in
+    let r = c .before .mb-run8 in
     let g = c .before .before .before .gather-rows8 in
-    (search needs, either-signed (x .hev-threshold) (x .interior-limit) (x .edge-limit) 8 (x .stride) (x .at) (now (x .plane)) (bytes (c .before .before .before .before .before)) (g .result) (r .result) (g .ensures) (x .mb-edge) (r .ensures))
+    (search needs, mb-signed (x .hev-threshold) (x .interior-limit) (x .edge-limit) 8 (x .stride) (x .at) (now (x .plane)) (bytes (c .before .before .before .before .before)) (g .result) (r .result) (g .ensures) (r .ensures))
+
+sub-run8-requires : tie.Need-sub-run8-requires
+sub-run8-requires c κs =
+    let x = c .before .before .before .before .args in
+    let g = c .before .gather-rows8 in
+    taps-signed (x .hev-threshold) (x .interior-limit) (x .edge-limit) 8 (x .stride) (x .at) (now (x .plane)) (bytes (c .before .before .before)) (g .result) (g .result) (g .ensures)
 
 scatter-four8-requires : tie.Need-scatter-four8-requires
 scatter-four8-requires c κs =
     let x = c .before .before .before .before .before .before .args in
-    let r = c .before .before .normal-filter-run8 in
+    let r = c .before .sub-run8 in
     let g = c .before .before .before .gather-rows8 in
-    (search needs, either-signed (x .hev-threshold) (x .interior-limit) (x .edge-limit) 8 (x .stride) (x .at) (now (x .plane)) (bytes (c .before .before .before .before .before)) (g .result) (r .result) (g .ensures) (x .mb-edge) (r .ensures))
+    (search needs, sub-signed (x .hev-threshold) (x .interior-limit) (x .edge-limit) 8 (x .stride) (x .at) (now (x .plane)) (bytes (c .before .before .before .before .before)) (g .result) (r .result) (g .ensures) (r .ensures))
 
 same-length : tie.Need-same-length
 same-length c = search needs
@@ -41,9 +48,9 @@ returns : tie.Need-returns
 returns c =
     let s = c .before .before .before .before .before .before .before .before .before in
     let x = s .args in
-    let r = c .before .before .before .before .before .normal-filter-run8 in
+    let r = c .before .before .before .before .mb-run8 in
     let g = c .before .before .before .before .before .before .gather-rows8 in
-    mb-either (x .hev-threshold) (x .interior-limit) (x .edge-limit) 8 (x .stride) (x .at) (now (x .plane)) (bytes (c .before .before .before .before .before .before .before .before)) (g .result) (r .result) (g .ensures) (x .mb-edge) (c .before .before .before .before .if1 .taken) (s .pre .1) (r .ensures) _ (c .before .before .scatter-six8 .ensures)
+    mb-either (x .hev-threshold) (x .interior-limit) (x .edge-limit) 8 (x .stride) (x .at) (now (x .plane)) (bytes (c .before .before .before .before .before .before .before .before)) (g .result) (r .result) (g .ensures) (x .mb-edge) (c .before .before .before .before .before .if1 .taken) (s .pre .1) (r .ensures) _ (c .before .before .scatter-six8 .ensures)
 
 same-length-2 : tie.Need-same-length-2
 same-length-2 c = search needs
@@ -52,17 +59,18 @@ returns-2 : tie.Need-returns-2
 returns-2 c =
     let s = c .before .before .before .before .before .before .before .before .before in
     let x = s .args in
-    let r = c .before .before .before .before .before .normal-filter-run8 in
+    let r = c .before .before .before .before .sub-run8 in
     let g = c .before .before .before .before .before .before .gather-rows8 in
-    sub-either (x .hev-threshold) (x .interior-limit) (x .edge-limit) 8 (x .stride) (x .at) (now (x .plane)) (bytes (c .before .before .before .before .before .before .before .before)) (g .result) (r .result) (g .ensures) (x .mb-edge) (c .before .before .before .before .if1 .left) (s .pre .1) (r .ensures) _ (c .before .before .scatter-four8 .ensures)
+    sub-either (x .hev-threshold) (x .interior-limit) (x .edge-limit) 8 (x .stride) (x .at) (now (x .plane)) (bytes (c .before .before .before .before .before .before .before .before)) (g .result) (r .result) (g .ensures) (x .mb-edge) (c .before .before .before .before .before .if1 .left) (s .pre .1) (r .ensures) _ (c .before .before .scatter-four8 .ensures)
 
 pub h-run8-spec : {M : Type 1} → statement M
 h-run8-spec =
     tie.close
     (tie.spec
     gather-rows8-requires
-    normal-filter-run8-requires
+    mb-run8-requires
     scatter-six8-requires
+    sub-run8-requires
     scatter-four8-requires
     same-length
     returns

@@ -1,7 +1,7 @@
 /*
- * The VP8 loop filter (RFC 6386, section 15): the C entries of the Rattle library `loop_filter`.
+ * The VP8 loop filter (RFC 6386, section 15): the C functions of the Rattle library `loop_filter`.
  *
- * What each entry answers and writes is proved. What no proof covers, and the caller must keep:
+ * What each function answers and writes is proved. What no proof covers, and the caller must keep:
  *   - A pointer comes with its true length: `seg`, `y`, `u` and `v` point to as many bytes, which may be read and
  *     written, `coeffs` and the lists to as many numbers, which may be read. An out-parameter points to one number that
  *     may be written.
@@ -25,7 +25,7 @@ extern "C" {
 #endif
 
 /*
- * What an entry that can refuse returns: 0, or the number of its refusal. A refused call changes no lent byte and
+ * What a function that can refuse returns: 0, or the number of its refusal. A refused call changes no lent byte and
  * writes no out-parameter.
  */
 enum vp8lf_refusal {
@@ -218,10 +218,25 @@ uint8_t vp8lf_reconstruction_ssd(const uint8_t *y, size_t y_len, const uint8_t *
                                  size_t src_y_stride, size_t src_uv_stride, uint64_t *sum);
 
 /*
- * The level and sharpness whose key pass leaves the least error sum, and how many candidates were scored at a level above
- * 0. The scratch planes have the reconstruction's strides; their grid is left as the chosen pair's pass leaves it.
- * Refused as the sums are, the scratch planes held to VP8LF_SHORT_PLANE too, and VP8LF_BAD_ENTRY before
- * VP8LF_SUM_TOO_LARGE. Lists of wrong length are answered with level 0.
+ * The search for a level and a sharpness. A candidate is scored by the error sum of what one whole key pass leaves of the
+ * reconstruction with that level and that sharpness in place of the settings' own. The candidates, in their order:
+ *   - level 0, which is the unfiltered reconstruction, whatever the deltas;
+ *   - the levels 4, 8 and so on to 60, then 63, at the base sharpness, which is the lesser of sharpness_level and 7;
+ *   - the levels within 3 of the best so far, inside 0..63 and upward, at the base sharpness, passing over the level that
+ *     is the best at that moment;
+ *   - if the best level is not 0, that level at the other sharpness values 0 to 7, upward.
+ * Only a strictly smaller sum replaces the best. What is chosen is the best of the candidates tried; a pair that was not
+ * tried may have a smaller sum. Level 0 comes with the base sharpness.
+ *
+ * Writes the chosen pair to *level and *sharpness, and to *count how many candidates were scored at a level above 0, which
+ * are 19 to 30. The scratch planes have the reconstruction's strides. Their grid is left as the chosen pair's pass leaves
+ * it, for level 0 as an unfiltered copy of the reconstruction; scratch samples outside the grid stay.
+ *
+ * Zero columns or rows, and lists of wrong length, are answered as if no pass changed anything: level 0, the base
+ * sharpness, the count 19, and the unfiltered copy.
+ *
+ * Refused as the sums are, with the scratch planes held to VP8LF_SHORT_PLANE after the planes; then, if there is a grid
+ * and the lists have its length, VP8LF_BAD_ENTRY; VP8LF_SUM_TOO_LARGE comes last.
  */
 uint8_t vp8lf_select_filter_params(
     const uint8_t *y, size_t y_len, const uint8_t *u, size_t u_len, const uint8_t *v, size_t v_len, size_t mb_cols,

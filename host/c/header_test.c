@@ -1,5 +1,5 @@
 /*
- * Compiles against include/vp8_loop_filter.h and calls each entry: the bench figures A to O of document 01, the ends of
+ * Compiles against include/vp8_loop_filter.h and calls each function: the bench figures A to O of document 01, the ends of
  * the numbers, and every refusal.
  */
 #include "vp8_loop_filter.h"

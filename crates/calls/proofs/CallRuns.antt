@@ -10,7 +10,7 @@ use mathlib.Core.Option as option
 use mathlib.Core.Option.{Option}
 use lib.ListN.{length}
 use lib.Seq.{ext-getD}
-use Rattle.kernels.specs.Answers.{Outcome, gives, refuses}
+use Rattle.arithmetic.specs.Outcome.{Outcome, gives, refuses}
 use Rattle.planes.specs.Steps.{steps, Clear}
 use Rattle.planes.specs.Planes.{Plane, luma, chromaU, chromaV, Planes, Grid, plane, Sample, sample, macroblocks, StridesHold}
 use Rattle.planes.specs.Reach.{Reach, Own}

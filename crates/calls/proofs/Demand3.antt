@@ -7,7 +7,7 @@ use native.Mathlib.Nat.{zero-add, sub-zero}
 use lib.Dec.{eqb}
 use native.Mathlib.Decide.{decLt}
 use native.Mathlib.Omega.{arith}
-use Rattle.kernels.specs.Answers.{gives}
+use Rattle.arithmetic.specs.Outcome.{gives}
 use Rattle.planes.specs.Steps.{steps, Clear}
 use Rattle.planes.specs.Planes.{Planes, Grid, Sample, sample, macroblocks, StridesHold}
 use Rattle.planes.specs.Macroblock.{filterMacroblock}

@@ -1,4 +1,4 @@
--- Laws of the lists that a pass reads: refusal 6 over a whole list, and the plan of a macroblock from its bytes. Assumes nothing.
+-- Laws of the lists that a pass reads: refusal 6 over a whole list, and the plan of a macroblock from what its bytes stand for. Assumes nothing.
 use mathlib.Core.Path.{_≡_, refl, sym, ap, _∙_}
 use mathlib.Core.Bool.{Bool, true, false, not, _||_}
 use mathlib.Core.List.{List, [], _∷_}
@@ -9,9 +9,8 @@ use native.Mathlib.Omega.{arith}
 use lib.Dec.{ltb, eqb}
 use lib.ListN.{length, getD, take}
 use lib.Seq.{take-all}
-use borrow.Author.Tests.{lt-ltb}
 use Rattle.levels.specs.Encodings.{modeOf, referenceOf, interModeOf, badMode, badReference, badInterMode}
-use Rattle.levels.specs.Levels.{segmentNumber, levelInSegment, baseLevel, segmentLevel, adjustedLevel, interLevel, keyLevel, levelOf, keyLevelOf}
+use Rattle.levels.specs.Levels.{segmentNumber, levelInSegment, baseLevel, segmentLevel, adjustedLevel, interLevel, keyLevel}
 use Rattle.levels.specs.declared.config.FrameFilterConfig.{FrameFilterConfig}
 use Rattle.levels.specs.declared.modes.IntraYMode.{IntraYMode}
 use Rattle.levels.specs.declared.modes.MaybeRef.{MaybeRef}
@@ -63,19 +62,6 @@ inter-bad l b e = e
 
 -- ---- the plan of a macroblock
 
--- the bytes above 3 are those that count as B
-pub above-tm : (mode : ℕ) → ltb 3 mode ≡ isB (modeOf mode)
-unfolding isB modeOf
-above-tm zero = refl
-above-tm (suc zero) = refl
-above-tm (suc (suc zero)) = refl
-above-tm (suc (suc (suc zero))) = refl
-above-tm (suc (suc (suc (suc zero)))) = refl
-above-tm (suc (suc (suc (suc (suc b))))) = lt-ltb 3 (suc (suc (suc (suc (suc b))))) (omega arith)
-
-pub inner-edges : (mode flag : ℕ) → (ltb 3 mode || not (eqb flag 0)) ≡ (isB (modeOf mode) || not (eqb flag 0))
-inner-edges mode flag = ap (λ (b : Bool). b || not (eqb flag 0)) (above-tm mode)
-
 -- a segment above 3 counts as 3, also in the level
 module _ (config : FrameFilterConfig) (segment : ℕ) where
   segment-number : segmentNumber config (min segment 3) ≡ segmentNumber config segment
@@ -94,18 +80,18 @@ module _ (config : FrameFilterConfig) (segment : ℕ) where
   unfolding interLevel adjustedLevel
   inter-level-min r i mode = rw segment-level
 
--- what the code reads of macroblock m gives its plan
-module _ (config : FrameFilterConfig) (m level : ℕ) (inside : Bool) where
-  pub key-plan : (l : KeyLists) → level ≡ keyLevelOf config (getD (l .segments) m 0) (getD (l .modes) m 0)
-      → inside ≡ (isB (modeOf (getD (l .modes) m 0)) || not (eqb (getD (l .flags) m 0) 0))
+-- the cases that the code reads of macroblock m give its plan
+module _ (config : FrameFilterConfig) (m level : ℕ) (inside : Bool) (mode : IntraYMode) where
+  pub key-plan : (l : KeyLists) → mode ≡ modeOf (getD (l .modes) m 0) → level ≡ keyLevel config (getD (l .segments) m 0) mode
+      → inside ≡ (isB mode || not (eqb (getD (l .flags) m 0) 0))
       → planAt config level inside ≡ keyPlan config (keyEntry l m)
-  unfolding keyPlan keyEntry entryOf insideOf keyLevelOf
-  key-plan l e f = cc (key-level-min config (getD (l .segments) m 0) (modeOf (getD (l .modes) m 0)))
+  unfolding keyPlan keyEntry entryOf insideOf
+  key-plan l o e f = cc (key-level-min config (getD (l .segments) m 0) mode)
 
-  pub inter-plan : (l : InterLists)
-      → level ≡ levelOf config (getD (l .segments) m 0) (getD (l .references) m 0) (getD (l .interModes) m 0) (getD (l .modes) m 0)
-      → inside ≡ (isB (modeOf (getD (l .modes) m 0)) || not (eqb (getD (l .flags) m 0) 0))
+  pub inter-plan : (reference : MaybeRef) (interMode : MaybeInter) (l : InterLists) → mode ≡ modeOf (getD (l .modes) m 0)
+      → reference ≡ referenceOf (getD (l .references) m 0) → interMode ≡ interModeOf (getD (l .interModes) m 0)
+      → level ≡ interLevel config (getD (l .segments) m 0) reference interMode mode
+      → inside ≡ (isB mode || not (eqb (getD (l .flags) m 0) 0))
       → planAt config level inside ≡ interPlan config (interEntry l m)
-  unfolding interPlan interEntry entryOf insideOf levelOf
-  inter-plan l e f =
-      cc (inter-level-min config (getD (l .segments) m 0) (referenceOf (getD (l .references) m 0)) (interModeOf (getD (l .interModes) m 0)) (modeOf (getD (l .modes) m 0)))
+  unfolding interPlan interEntry entryOf insideOf
+  inter-plan reference interMode l o p q e f = cc (inter-level-min config (getD (l .segments) m 0) reference interMode mode)

@@ -7,7 +7,7 @@ use native.Mathlib.Nat.{le-refl}
 use native.Mathlib.Omega.{arith}
 use lib.Dec.{eqb, ltb}
 use lib.ListN.{getD, length-map, List·getD-map}
-use Rattle.kernels.specs.Answers.{refuses}
+use Rattle.arithmetic.specs.Outcome.{refuses}
 use Rattle.levels.specs.Encodings.{modeByte, referenceByte, interModeByte, referenceOf, interModeOf, badMode, badReference, badInterMode}
 use Rattle.levels.specs.declared.config.FrameFilterConfig.{FrameFilterConfig}
 use Rattle.levels.proofs.Encodings.{mode-byte, reference-byte, inter-mode-byte}

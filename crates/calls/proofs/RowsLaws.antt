@@ -7,7 +7,7 @@ use native.Mathlib.Nat.{mod-lt, mul-le-mul-left, le-div-iff-mul-le, div-mul-le-s
 use native.Mathlib.Omega.{arith}
 use lib.Dec.{eqb, ltb}
 use borrow.Author.Tests.{eq-eqb, ne-eqb, lt-ltb, le-ltb, eqb-true, eqb-false, ltb-false}
-use Rattle.kernels.specs.Answers.{Outcome, gives, refuses}
+use Rattle.arithmetic.specs.Outcome.{Outcome, gives, refuses}
 use Rattle.planes.specs.Steps.{Clear}
 use Rattle.planes.specs.Planes.{Plane, luma, chromaU, chromaV, Grid, side, stride, Sample, rowOf, columnOf, macroblocks, gridRow, gridColumn, StridesHold}
 use Rattle.planes.specs.Reach.{Box, Near, Reach}

@@ -1,7 +1,7 @@
 -- What a pass answers, in document 01's terms.
 use mathlib.Core.Path.{_≡_}
 use Prim.Native.Nat.{ℕ}
-use Rattle.kernels.specs.Answers.{Outcome, gives, refuses}
+use Rattle.arithmetic.specs.Outcome.{Outcome, gives, refuses}
 use Rattle.planes.specs.Planes.{Planes}
 use Rattle.calls.specs.Pass.{Pass, Call, Progress, answer, planesAfter}
 use Rattle.calls.specs.declared.answers.PassAnswer.{PassAnswer}

@@ -11,11 +11,11 @@ use native.Mathlib.Decide.{ℕ-discrete}
 use lib.Dec.{ltb}
 use lib.Seq.{getD-set-other, getD-take}
 use borrow.Author.Tests.{ltb-true}
-use Rattle.kernels.specs.Numbers.{clamp, u2s, s2u, shr}
+use Rattle.arithmetic.specs.Numbers.{clamp, u2s, s2u, shr}
 use Rattle.kernels.specs.Kernels as kernels
 use Rattle.kernels.specs.Segment.{subblockFilter, mbFilter, half, taps, smooth, gather, scatter, segment}
-use Rattle.kernels.specs.Limits.{atLeastOne, interiorLimit, hevThreshold, mbedgeLimit, subBedgeLimit, derive}
-use Rattle.kernels.specs.Answers.{Outcome, gives, refuses}
+use Rattle.arithmetic.specs.Limits.{atLeastOne, interiorLimit, hevThreshold, mbedgeLimit, subBedgeLimit, derive}
+use Rattle.arithmetic.specs.Outcome.{Outcome, gives, refuses}
 use Rattle.levels.specs.Encodings.{modeOf, referenceOf, interModeOf, badMode, badReference, badInterMode}
 use Rattle.levels.specs.Levels as levels
 use Rattle.planes.specs.Steps.{steps, Clear}

@@ -3,7 +3,7 @@ use mathlib.Core.Path.{_≡_}
 use mathlib.Core.Bool.{cond}
 use Prim.Native.Nat.{ℕ, _-_, _*_, _≤_, _<_}
 use lib.Dec.{eqb, ltb}
-use Rattle.kernels.specs.Answers.{Outcome, gives, refuses}
+use Rattle.arithmetic.specs.Outcome.{Outcome, gives, refuses}
 use Rattle.planes.specs.Steps.{Clear}
 use Rattle.planes.specs.Planes.{Plane, luma, chromaU, chromaV, Grid, side, Sample, rowOf, macroblocks, gridRow, StridesHold}
 use Rattle.planes.specs.Reach.{Reach, InGrid}

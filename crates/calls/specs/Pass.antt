@@ -2,10 +2,10 @@
 use mathlib.Core.Bool.{Bool, true, false, cond, _||_}
 use Prim.Native.Nat.{ℕ, _+_, _-_, min}
 use lib.Dec.{eqb, ltb}
-use Rattle.kernels.specs.Answers.{Outcome, gives, refuses}
-use Rattle.kernels.specs.Limits.{derive}
+use Rattle.arithmetic.specs.Outcome.{Outcome, gives, refuses}
+use Rattle.arithmetic.specs.Limits.{derive}
 use Rattle.kernels.specs.Segment.{simpleSegment, subblockFilter, mbFilter}
-use Rattle.kernels.specs.declared.limits.LoopFilterParams.{LoopFilterParams}
+use Rattle.arithmetic.specs.declared.limits.LoopFilterParams.{LoopFilterParams}
 use Rattle.levels.specs.Levels.{keyLevel, interLevel}
 use Rattle.levels.specs.declared.config.FrameFilterConfig.{FrameFilterConfig}
 use Rattle.levels.specs.declared.modes.IntraYMode.{IntraYMode}

@@ -2,7 +2,7 @@
 use mathlib.Core.Path.{_≡_}
 use mathlib.Core.List.{List}
 use Prim.Native.Nat.{ℕ, _≤_, _<_}
-use Rattle.kernels.specs.Answers.{gives}
+use Rattle.arithmetic.specs.Outcome.{gives}
 use Rattle.planes.specs.Steps.{Clear}
 use Rattle.planes.specs.Planes.{Planes, Sample, sample, rowOf, macroblocks}
 use Rattle.planes.specs.Reach.{Reach}

@@ -4,10 +4,10 @@ use mathlib.Core.Bool.{true}
 use mathlib.Core.List.{List, [], _∷_, _++_}
 use Prim.Native.Nat.{ℕ, zero, suc}
 use lib.ListN.{replicate}
-use Rattle.kernels.specs.Numbers.{clamp, u2s, s2u, shr}
+use Rattle.arithmetic.specs.Numbers.{clamp, u2s, s2u, shr}
 use Rattle.kernels.specs.Kernels as kernels
 use Rattle.kernels.specs.Segment.{half, taps, smooth, gather, scatter, segment}
-use Rattle.kernels.specs.declared.limits.LoopFilterParams.{LoopFilterParams}
+use Rattle.arithmetic.specs.declared.limits.LoopFilterParams.{LoopFilterParams}
 use Rattle.planes.specs.Steps.{steps}
 use Rattle.planes.specs.Planes.{Planes, Grid}
 use Rattle.planes.specs.Edges.{firstRow, firstColumn, edgeTap, filterEdge, borders, insides, places}

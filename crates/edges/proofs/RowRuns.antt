@@ -9,10 +9,10 @@ use lib.ListN.{getD, set}
 use lib.IntN.{ℤ, pos, negsuc}
 use lib.Signed.{mag}
 use borrow.Author.Tests.{ltb-true, ltb-false}
-use Rattle.kernels.specs.Numbers.{u2s, s2u}
+use Rattle.arithmetic.specs.Numbers.{u2s, s2u}
 use Rattle.kernels.specs.Kernels as K
 use Rattle.kernels.specs.Segment.{Kernel, simpleSegment, subblockFilter, mbFilter, half, taps, smooth, gather}
-use Rattle.kernels.proofs.Ranges as R
+use Rattle.arithmetic.proofs.Ranges as R
 use Rattle.kernels.proofs.SegmentLaws.{stored, stored-at}
 use Rattle.planes.specs.Steps.{steps}
 use Rattle.planes.specs.Edges.{horizontal}

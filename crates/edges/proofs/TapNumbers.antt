@@ -11,10 +11,10 @@ use lib.Signed.{mag, ltZ, shrZ, natAbs-le, pos-natAbs}
 use borrow.Author.Tests.{ltb-true, ltb-false, le-ltb, lt-ltb}
 use mir.Syntax.{w16}
 use mir.Val.{toZ, ofZ}
-use Rattle.kernels.specs.Numbers.{clamp, u2s, s2u, shr}
+use Rattle.arithmetic.specs.Numbers.{clamp, u2s, s2u, shr}
 use Rattle.kernels.specs.Kernels.{apart, gainOf, lossOf, part}
-use Rattle.kernels.proofs.Ranges as R
-use Rattle.edges.specs.Private.Runs.{larger, atMost123}
+use Rattle.arithmetic.proofs.Ranges as R
+use Rattle.edges.specs.Private.Runs.{larger}
 
 -- ---- a tap in a local
 
@@ -196,23 +196,7 @@ on-taps : (f g : ℤ → ℤ) → T (all (λ n. eqZ (f (pos n)) (g (pos n))) 128
 on-taps f g s t (pos n) h = eqZ→eq (f (pos n)) (g (pos n)) (all-at (λ n. eqZ (f (pos n)) (g (pos n))) 128 s n h)
 on-taps f g s t (negsuc n) h = eqZ→eq (f (negsuc n)) (g (negsuc n)) (all-at (λ n. eqZ (f (negsuc n)) (g (negsuc n))) 128 t n h)
 
-pub gain-is : (a : ℤ) → mag a < 128 → shrZ (atMost123 a +ℤ pos 3) 8 ≡ gainOf a
-unfolding all eqZ atMost123 gainOf clamp shr
-gain-is = on-taps (λ a. shrZ (atMost123 a +ℤ pos 3) 8) gainOf tt tt
-
-pub loss-is : (a : ℤ) → mag a < 128 → shrZ (atMost123 a +ℤ pos 4) 8 ≡ lossOf a
-unfolding all eqZ atMost123 lossOf clamp shr
-loss-is = on-taps (λ a. shrZ (atMost123 a +ℤ pos 4) 8) lossOf tt tt
-
 -- ---- ranges
-
-pub at-most-in : (a : ℤ) → mag a < 128 → mag (atMost123 a) < 128
-unfolding atMost123
-at-most-in a h = by (ltZ a (pos 124))
-  where
-    by : (t : Bool) → mag (cond t a (pos 123)) < 128
-    by true = h
-    by false = lit< tt
 
 pub cond-in : (b : Bool) (x y : ℤ) {N : ℕ} → mag x < N → mag y < N → mag (cond b x y) < N
 cond-in true x y h k = h

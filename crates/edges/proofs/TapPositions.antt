@@ -7,11 +7,11 @@ use lib.Dec.{leb}
 use lib.ListN.{getD}
 use lib.IntN.{ℤ, pos, _+ℤ_, _-ℤ_, +ℤ-idl, +ℤ-idr}
 use lib.Signed.{mag}
-use Rattle.kernels.specs.Numbers.{clamp, u2s, s2u, shr}
+use Rattle.arithmetic.specs.Numbers.{clamp, u2s, s2u, shr}
 use Rattle.kernels.specs.Kernels as K
 use Rattle.kernels.specs.Kernels.{edgeValue, filterValue, filterYes, hev, gainOf, lossOf, part, adjustment, adjustedP0, adjustedQ0, outerStep, wideValue, segmentYes, segmentHev, simpleYes}
 use Rattle.kernels.specs.Segment.{simpleSegment, subblockFilter, mbFilter, smooth}
-use Rattle.kernels.proofs.Ranges as R
+use Rattle.arithmetic.proofs.Ranges as R
 use Rattle.kernels.proofs.Apart.{edge-signed}
 use Rattle.edges.specs.declared.run.InnerTaps.{InnerTaps}
 use Rattle.edges.specs.declared.run.EdgeTaps.{EdgeTaps}

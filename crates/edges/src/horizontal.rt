@@ -11,7 +11,7 @@ use crate::taps::gather8;
 use crate::taps::gather16;
 use crate::taps::scatter8;
 use crate::taps::scatter16;
-use kernels::limits::LoopFilterParams;
+use arithmetic::limits::LoopFilterParams;
 ghost use mathlib.Core.Path.{_≡_};
 ghost use Prim.Native.Nat.{_+_, _*_, _≤_};
 ghost use lib.ListN.{length};

@@ -1,11 +1,13 @@
 // RFC 6386, sections 15.2 and 15.3: the kernels on rows of taps, by value. Taps lie in -128..127, and no step branches on them.
+use arithmetic::signed::at_most_123;
+use arithmetic::signed::clamp;
 ghost use mathlib.Core.Path.{_≡_};
 ghost use mathlib.Core.Bool.{true, cond};
 ghost use Prim.Native.Nat.{_<_, _≤_, max};
 ghost use lib.Dec.{leb};
 ghost use lib.IntN.{pos, _+ℤ_, _-ℤ_};
 ghost use lib.Signed.{mag};
-ghost use Rattle.kernels.specs.Numbers as num;
+ghost use Rattle.arithmetic.specs.Numbers as num;
 ghost use Rattle.kernels.specs.Kernels as kern;
 ghost use Rattle.kernels.specs.Kernels.{apart, edgeValue, filterValue, filterYes, hev, gainOf, lossOf};
 ghost use Rattle.kernels.specs.Segment.{simpleSegment, subblockFilter, mbFilter};
@@ -45,26 +47,6 @@ fn larger(a: i16, b: i16) -> i16
     ensures { λ r. ⌜ r ≡ spec.larger a b ⌝ }
 {
     if a < b { b } else { a }
-}
-
-// c: limits to -128..127.
-fn clamp(v: i16) -> i16
-    ensures { λ r. ⌜ r ≡ num.clamp v ⌝ }
-{
-    if v < -128 {
-        -128
-    } else if v < 128 {
-        v
-    } else {
-        127
-    }
-}
-
-// The sums a + 4 and a + 3 then need no clamp for their shift by 3.
-fn at_most_123(a: i16) -> i16
-    ensures { λ r. ⌜ r ≡ spec.atMost123 a ⌝ }
-{
-    if a < 124 { a } else { 123 }
 }
 
 // |a - b|.

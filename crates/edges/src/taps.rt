@@ -3,7 +3,7 @@ ghost use mathlib.Core.Path.{_≡_};
 ghost use Prim.Native.Nat.{_+_, _≤_, _<_};
 ghost use lib.ListN.{length};
 ghost use lib.Signed.{mag};
-ghost use Rattle.kernels.specs.Numbers.{u2s, s2u};
+ghost use Rattle.arithmetic.specs.Numbers.{u2s, s2u};
 ghost use Rattle.edges.specs.Private.Runs.{rowAt, storeRow, SignedRow};
 
 // A sample as a tap.

@@ -1,7 +1,7 @@
 // Vertical edges (RFC 6386, section 15.1): at each row, the samples across the edge are lent from mid-row to the kernel, which writes them.
 // `at` is the first tap in the first row.
 use crate::room::has_room;
-use kernels::limits::LoopFilterParams;
+use arithmetic::limits::LoopFilterParams;
 use kernels::segments::mb_filter;
 use kernels::segments::simple_segment;
 use kernels::segments::subblock_filter;

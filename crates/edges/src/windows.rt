@@ -1,23 +1,12 @@
 // The normal kernels on one window, as an edge of one row: the loops over an edge's rows stay the kernels' only callers, so the compiler can put the kernels into them.
 use crate::vertical::v_mb;
 use crate::vertical::v_sub;
+use arithmetic::limits::LoopFilterParams;
 use kernels::answers::KernelAnswer;
-use kernels::limits::LoopFilterParams;
+use kernels::segments::has_window;
 ghost use mathlib.Core.Path.{_≡_};
-ghost use Prim.Native.Nat.{_+_};
-ghost use lib.Dec.{leb};
 ghost use Rattle.kernels.specs.Answers.{kernelOutcome};
 ghost use Rattle.kernels.specs.Segment.{subblockFilter, mbFilter, windowed, windowAnswer};
-
-// A window of 8 samples fits at base of a slice of n samples. No sum of the two can wrap.
-fn has_window(n: usize, base: usize) -> bool
-    ensures { λ r. ⌜ r ≡ leb (base + 8) n ⌝ }
-{
-    if n < 8 {
-        return false;
-    }
-    base <= n - 8
-}
 
 // kernels::segments::mb_filter.
 pub fn mb_filter_window(
@@ -30,7 +19,7 @@ pub fn mb_filter_window(
     ensures { λ r. ⌜ kernelOutcome r ≡ windowAnswer (mbFilter «hev_threshold» «interior_limit» «edge_limit») (now (seg .entry)) base ⌝ }
     ensures { λ _. ⌜ now (seg .exit) ≡ windowed (mbFilter «hev_threshold» «interior_limit» «edge_limit») (now (seg .entry)) base ⌝ }
 {
-    if has_window(seg.len(), base) {
+    if has_window(seg.len(), 8, base) {
         let limits = LoopFilterParams {
             interior_limit: interior_limit,
             hev_threshold: hev_threshold,
@@ -55,7 +44,7 @@ pub fn subblock_filter_window(
     ensures { λ r. ⌜ kernelOutcome r ≡ windowAnswer (subblockFilter «hev_threshold» «interior_limit» «edge_limit») (now (seg .entry)) base ⌝ }
     ensures { λ _. ⌜ now (seg .exit) ≡ windowed (subblockFilter «hev_threshold» «interior_limit» «edge_limit») (now (seg .entry)) base ⌝ }
 {
-    if has_window(seg.len(), base) {
+    if has_window(seg.len(), 8, base) {
         let limits = LoopFilterParams {
             interior_limit: interior_limit,
             hev_threshold: hev_threshold,

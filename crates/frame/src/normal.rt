@@ -1,8 +1,8 @@
 // One plane of a macroblock under the normal filter, its edges in order (RFC 6386, section 15.1): left border, inner vertical edges,
 // upper border, inner horizontal edges. `corner` is the index of the square's first sample.
+use arithmetic::limits::LoopFilterParams;
 use edges::horizontal;
 use edges::vertical;
-use kernels::limits::LoopFilterParams;
 ghost use mathlib.Core.Path.{_≡_};
 ghost use mathlib.Core.Bool.{cond};
 ghost use Prim.Native.Nat.{_+_, _*_, _-_, _≤_, _<_};

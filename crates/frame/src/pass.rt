@@ -1,4 +1,8 @@
 // The passes over a frame, in raster order, halted and resumed by start and allowance (document 01, Passes and Halting).
+use crate::decode::inner_edges;
+use crate::decode::inter_mode_of;
+use crate::decode::mode_of;
+use crate::decode::reference_of;
 use crate::step::filter_macroblock;
 use calls::answers::PassAnswer;
 use judge::batch::judge_call;
@@ -6,7 +10,6 @@ use judge::entries::any_above;
 use judge::entries::bad_entries;
 use judge::entries::equal_lengths3;
 use judge::entries::equal_lengths5;
-use judge::entries::inner_edges;
 use levels::config::FrameFilterConfig;
 use levels::level::key_mb_level;
 use levels::level::mb_level;
@@ -41,7 +44,7 @@ fn filter_key_range(
 {
     let mut m = from;
     while m < to {
-        let mode = modes[m];
+        let mode = mode_of(modes[m]);
         let level = key_mb_level(config, segments[m], mode);
         let inside = inner_edges(mode, flags[m]);
         filter_macroblock(y, u, v, layout, config, m, level, inside);
@@ -73,8 +76,10 @@ fn filter_inter_range(
 {
     let mut m = from;
     while m < to {
-        let mode = modes[m];
-        let level = mb_level(config, segments[m], references[m], inter_modes[m], mode);
+        let mode = mode_of(modes[m]);
+        let reference = reference_of(references[m]);
+        let inter_mode = inter_mode_of(inter_modes[m]);
+        let level = mb_level(config, segments[m], reference, inter_mode, mode);
         let inside = inner_edges(mode, flags[m]);
         filter_macroblock(y, u, v, layout, config, m, level, inside);
         m += 1;

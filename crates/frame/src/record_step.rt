@@ -1,4 +1,5 @@
-// What the passes do with one macroblock record: the bytes that it stands for, its level, whether its inner edges are filtered, and its step.
+// What the passes do with one macroblock record: its level, whether its inner edges are filtered, and its step.
+use crate::decode::is_b;
 use crate::step::filter_macroblock;
 use calls::records::MacroblockModes;
 use calls::records::MaybeSegment;
@@ -7,19 +8,11 @@ use judge::batch::judge_call;
 use levels::config::FrameFilterConfig;
 use levels::level::key_mb_level;
 use levels::level::mb_level;
-use levels::modes::InterMode;
-use levels::modes::IntraYMode;
-use levels::modes::MaybeInter;
-use levels::modes::MaybeRef;
-use levels::modes::RefFrame;
 use planes::layout::PlaneLayout;
 ghost use mathlib.Core.Bool.{true, false};
 ghost use mathlib.Core.Path.{_≡_};
 ghost use Prim.Native.Nat.{_<_};
-ghost use Rattle.levels.specs.Encodings.{modeByte, referenceByte, interModeByte};
 ghost use Rattle.levels.specs.Levels.{keyLevel, interLevel};
-ghost use Rattle.levels.specs.declared.modes.MaybeInter.the-variants as inter;
-ghost use Rattle.levels.specs.declared.modes.MaybeRef.the-variants as reference;
 ghost use Rattle.calls.specs.Entries.{segmentByte, keyRecord, interRecord};
 ghost use Rattle.planes.specs.Layout.{gridOf, planesOf};
 ghost use Rattle.planes.specs.Macroblock.{filterMacroblock};
@@ -27,19 +20,6 @@ ghost use Rattle.calls.specs.Pass.{insideOf, keyPlan, interPlan};
 ghost use Rattle.planes.specs.Planes.{macroblocks};
 ghost use Rattle.judge.specs.Batches.{lengthsWrong, seen, batchOf};
 ghost use Rattle.frame.specs.Private.Ranges.{Sound};
-
-// Document 01's byte of each case.
-fn mode_byte(mode: IntraYMode) -> u8
-    ensures { λ r. ⌜ r ≡ modeByte mode ⌝ }
-{
-    match mode {
-        IntraYMode::Dc => 0,
-        IntraYMode::V => 1,
-        IntraYMode::H => 2,
-        IntraYMode::Tm => 3,
-        IntraYMode::B => 4,
-    }
-}
 
 // None is written 0.
 fn segment_byte(segment: MaybeSegment) -> u8
@@ -51,55 +31,14 @@ fn segment_byte(segment: MaybeSegment) -> u8
     }
 }
 
-fn present_reference_byte(frame: RefFrame) -> u8
-    ensures { λ r. ⌜ r ≡ referenceByte (reference.Present frame) ⌝ }
-{
-    match frame {
-        RefFrame::Last => 1,
-        RefFrame::Golden => 2,
-        RefFrame::AltRef => 3,
-    }
-}
-
-fn reference_byte(reference: MaybeRef) -> u8
-    ensures { λ r. ⌜ r ≡ referenceByte reference ⌝ }
-{
-    match reference {
-        MaybeRef::Absent => 0,
-        MaybeRef::Present(frame) => present_reference_byte(frame),
-    }
-}
-
-fn present_inter_mode_byte(mode: InterMode) -> u8
-    ensures { λ r. ⌜ r ≡ interModeByte (inter.Present mode) ⌝ }
-{
-    match mode {
-        InterMode::Zero => 1,
-        InterMode::Nearest => 2,
-        InterMode::Near => 3,
-        InterMode::New => 4,
-        InterMode::Split => 5,
-    }
-}
-
-fn inter_mode_byte(inter_mode: MaybeInter) -> u8
-    ensures { λ r. ⌜ r ≡ interModeByte «inter_mode» ⌝ }
-{
-    match inter_mode {
-        MaybeInter::Absent => 0,
-        MaybeInter::Present(mode) => present_inter_mode_byte(mode),
-    }
-}
-
 // The key level ignores reference and inter mode.
 fn key_record_level(config: FrameFilterConfig, mb: MacroblockModes) -> u8
     ensures { λ r. ⌜ r ≡ keyLevel config (keyRecord mb .segment) (keyRecord mb .mode) ⌝ }
 {
     let y_mode = mb.y_mode;
     let segment_id = mb.segment_id;
-    let mode = mode_byte(y_mode);
     let segment = segment_byte(segment_id);
-    key_mb_level(config, segment, mode)
+    key_mb_level(config, segment, y_mode)
 }
 
 fn inter_record_level(config: FrameFilterConfig, mb: MacroblockModes) -> u8
@@ -110,11 +49,8 @@ fn inter_record_level(config: FrameFilterConfig, mb: MacroblockModes) -> u8
     let segment_id = mb.segment_id;
     let ref_frame = mb.ref_frame;
     let inter_mode = mb.inter_mode;
-    let mode = mode_byte(y_mode);
     let segment = segment_byte(segment_id);
-    let reference = reference_byte(ref_frame);
-    let inter_byte = inter_mode_byte(inter_mode);
-    mb_level(config, segment, reference, inter_byte, mode)
+    mb_level(config, segment, ref_frame, inter_mode, y_mode)
 }
 
 // The mode is B, or there are coefficients.
@@ -122,8 +58,7 @@ fn record_inner_edges(mb: MacroblockModes) -> bool
     ensures { λ r. ⌜ r ≡ insideOf (interRecord mb) ⌝ }
 {
     let y_mode = mb.y_mode;
-    let mode = mode_byte(y_mode);
-    (3 < mode) | mb.has_coeffs
+    is_b(y_mode) | mb.has_coeffs
 }
 
 // The key pass's step of macroblock m, by its record.

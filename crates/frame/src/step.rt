@@ -1,7 +1,7 @@
 // The step of one macroblock (RFC 6386, section 15.1). No plane's edges depend on another plane's samples, so each plane is done whole.
 use crate::normal;
 use crate::simple;
-use kernels::limits::LoopFilterParams;
+use arithmetic::limits::LoopFilterParams;
 use levels::config::FrameFilterConfig;
 use planes::layout::PlaneLayout;
 ghost use mathlib.Core.Path.{_≡_};

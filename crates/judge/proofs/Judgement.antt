@@ -6,7 +6,7 @@ use native.Mathlib.Omega.{arith}
 use lib.Dec.{ltb, eqb}
 use lib.ListN.{length}
 use borrow.Author.Tests.{ltb-false}
-use Rattle.kernels.specs.Answers.{refuses}
+use Rattle.arithmetic.specs.Outcome.{refuses}
 use Rattle.planes.specs.Steps.{steps}
 use Rattle.planes.specs.Planes.{Planes, macroblocks}
 use Rattle.planes.specs.GridRefusals.{zeroGrid, tooLarge, badStrides, shortPlanes, afterGrid, shortBy}

@@ -1,10 +1,9 @@
-// What the passes read of the lists, one byte a macroblock: refusal 6 over whole lists, their lengths for 5, and whether a macroblock's inner edges are filtered.
-ghost use mathlib.Core.Bool.{_||_, _&&_, not};
+// What the judge reads of the lists, one byte a macroblock: refusal 6 over whole lists, and their lengths for 5.
+ghost use mathlib.Core.Bool.{_||_, _&&_};
 ghost use mathlib.Core.Path.{_≡_};
 ghost use lib.Dec.{ltb, eqb};
-ghost use Rattle.levels.specs.Encodings.{modeOf, badMode, badReference, badInterMode};
+ghost use Rattle.levels.specs.Encodings.{badMode, badReference, badInterMode};
 ghost use Rattle.calls.specs.Entries.{anyOf};
-ghost use Rattle.calls.specs.Pass.{isB};
 
 // Some byte is above `most`. No branch in the loop, so that it is done several bytes at a time.
 pub fn any_above(list: &[u8], most: u8) -> bool
@@ -40,11 +39,4 @@ pub fn equal_lengths5(a: usize, b: usize, c: usize, d: usize, e: usize) -> bool
     ensures { λ r. ⌜ r ≡ (eqb b a && eqb c a && eqb d a && eqb e a) ⌝ }
 {
     (b == a) & (c == a) & (d == a) & (e == a)
-}
-
-// The mode is B or the flag is set. A byte above 4 counts as B.
-pub fn inner_edges(mode: u8, flag: u8) -> bool
-    ensures { λ r. ⌜ r ≡ (isB (modeOf mode) || not (eqb flag 0)) ⌝ }
-{
-    (3 < mode) | (flag != 0)
 }

@@ -7,7 +7,7 @@ use native.Mathlib.Omega.{arith}
 use lib.IntN.{ℤ, pos, negsuc, negℤ, subℕ, _+ℤ_, _-ℤ_, natAbs, negℤ-+ℤ, negℤ-negℤ, +ℤ-assoc, +ℤ-comm, +ℤ-negℤ-cancel}
 use lib.Dec.{leb, ltb}
 use borrow.Author.Tests.{le-ltb, lt-ltb, le-leb, lt-leb, leb-true, leb-false, ltb-true, ltb-false}
-use Rattle.kernels.specs.Numbers.{u2s}
+use Rattle.arithmetic.specs.Numbers.{u2s}
 use Rattle.kernels.specs.Kernels.{apart, edgeValue, simpleYes, filterYes, hev, segmentYes, segmentHev}
 use Rattle.kernels.specs.Private.Windows.{neighboursNear, lowVariance}
 

@@ -11,10 +11,10 @@ use lib.Signed.{mag, ltZ, nonNeg, shrZ}
 use borrow.Author.Tests.{le-leb, ltb-true, ltb-false, le-ltb, lt-ltb, eqb-true, eqb-false}
 use mir.Syntax.{Width, w8}
 use mir.Val.{Fits, toZ}
-use Rattle.kernels.specs.Numbers.{clamp, u2s, s2u, shr}
+use Rattle.arithmetic.specs.Numbers.{clamp, u2s, s2u, shr, atMost123}
 use Rattle.kernels.specs.Kernels.{gainOf, lossOf, part}
-use Rattle.kernels.specs.Private.Windows.{atMost123, inByte, cut}
-use Rattle.kernels.proofs.Ranges as R
+use Rattle.kernels.specs.Private.Windows.{inByte, cut}
+use Rattle.arithmetic.proofs.Ranges as R
 
 -- ---- the bound 0..255
 
@@ -155,18 +155,6 @@ loss-is = agree (λ a. shrZ (atMost123 a +ℤ pos 4) 8) lossOf tt tt
 pub half-is : (a : ℤ) → mag a < 128 → shrZ (atMost123 a +ℤ pos 12) 16 ≡ shr (lossOf a +ℤ pos 1) 1
 unfolding atMost123 lossOf shr clamp
 half-is = agree (λ a. shrZ (atMost123 a +ℤ pos 12) 16) (λ a. shr (lossOf a +ℤ pos 1) 1) tt tt
-
-pub most-below : (v : ℤ) → ltZ v (pos 123) ≡ true → atMost123 v ≡ v
-unfolding atMost123
-most-below v e = rw e
-
-pub most-above : (v : ℤ) → ltZ v (pos 123) ≡ false → atMost123 v ≡ pos 123
-unfolding atMost123
-most-above v e = rw e
-
-pub most-in : (v : ℤ) → mag v < 128 → mag (atMost123 v) < 128
-unfolding atMost123
-most-in v h = R.sub-by (ltZ v (pos 123)) v (pos 123) 128 (λ e. h) (λ e. lit< tt)
 
 -- ---- the parts of w
 

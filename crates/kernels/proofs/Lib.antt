@@ -1,5 +1,5 @@
 -- What several proofs share.
-pub mod Ranges
+pub mod SignedBytes
 pub mod Apart
 pub mod Cuts
 pub mod Windows

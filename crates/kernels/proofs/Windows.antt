@@ -10,7 +10,7 @@ use native.Mathlib.Omega.{arith}
 use lib.ListN.{getD, set, take, drop}
 use lib.Seq.{set-getD, getD-set-other}
 use lib.IntN.{_+ℤ_, _-ℤ_}
-use Rattle.kernels.specs.Numbers.{u2s, s2u}
+use Rattle.arithmetic.specs.Numbers.{u2s, s2u}
 use Rattle.kernels.specs.Kernels as K
 use Rattle.kernels.specs.Kernels.{segmentYes, segmentHev, adjustedP0, adjustedQ0, simpleYes, outerStep, part, wideValue}
 use Rattle.kernels.specs.Segment.{commonAdjust, simpleSegment, subblockFilter, mbFilter, half, taps, smooth, gather, scatter, segment}

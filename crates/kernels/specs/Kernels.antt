@@ -5,7 +5,7 @@ use mathlib.Core.List.{List, [], _∷_}
 use Prim.Native.Nat.{ℕ, _+_, _*_, _/_}
 use lib.Dec.{leb, ltb}
 use lib.IntN.{ℤ, pos, _+ℤ_, _-ℤ_, _*ℤ_, natAbs}
-use Rattle.kernels.specs.Numbers.{clamp, u2s, s2u, shr}
+use Rattle.arithmetic.specs.Numbers.{clamp, u2s, s2u, shr}
 
 -- abs of a difference (line 4901)
 unfoldable pub apart : ℤ → ℤ → ℕ

@@ -6,7 +6,7 @@ use Prim.Native.Nat.{ℕ, zero, suc, _+_, _-_}
 use lib.Dec.{leb}
 use lib.ListN.{length, getD, set, take, drop}
 use lib.IntN.{ℤ}
-use Rattle.kernels.specs.Answers.{Outcome, gives, refuses}
+use Rattle.arithmetic.specs.Outcome.{Outcome, gives, refuses}
 use Rattle.kernels.specs.Kernels as K
 use Rattle.kernels.specs.Kernels.{adjustment}
 

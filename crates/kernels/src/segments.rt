@@ -4,11 +4,11 @@ use crate::answers::KernelAnswer;
 use crate::store::cut2;
 use crate::store::cut4;
 use crate::store::cut6;
-use crate::values::at_most_123;
 use crate::values::filter_value;
 use crate::values::low_variance;
 use crate::values::neighbours_near;
 use crate::values::simple_yes;
+use arithmetic::signed::at_most_123;
 ghost use mathlib.Core.Path.{_≡_};
 ghost use mathlib.Core.Bool.{cond};
 ghost use Prim.Native.Nat.{_+_, _≤_};
@@ -20,7 +20,7 @@ ghost use Rattle.kernels.specs.Private.Windows.{adjustedAt, softenedFour
 ghost use Rattle.kernels.specs.Segment.{commonAdjust, simpleSegment, subblockFilter, mbFilter, segment, windowed, windowAnswer, adjustAnswer};
 
 // A window of `taps` samples fits at base of a slice of n samples. No sum of the two can wrap.
-fn has_window(n: usize, taps: usize, base: usize) -> bool
+pub fn has_window(n: usize, taps: usize, base: usize) -> bool
     ensures { λ r. ⌜ r ≡ leb (base + taps) n ⌝ }
 {
     if n < taps {
@@ -35,7 +35,7 @@ fn adjust(outer: bool, seg: &mut [u8], at: usize, p1: u8, p0: u8, q0: u8, q1: u8
     ensures { λ r. ⌜ r ≡ adjustment outer p1 p0 q0 q1 ⌝ }
     ensures { λ _. ⌜ now (seg .exit) ≡ adjustedAt outer (now (seg .entry)) at p1 p0 q0 q1 ⌝ }
 {
-    let a = at_most_123(filter_value(outer, p1, p0, q0, q1));
+    let a = at_most_123(filter_value(outer, p1, p0, q0, q1)) as i64;
     let loss = (a + 4) >> 3;
     cut2(seg, at, p0 as i64 + ((a + 3) >> 3), q0 as i64 - loss);
     loss
@@ -96,7 +96,7 @@ fn soften_four(seg: &mut [u8], at: usize, p1: u8, p0: u8, q0: u8, q1: u8)
     requires { ⌜ at + 4 ≤ length (now seg) ⌝ }
     ensures { λ _. ⌜ now (seg .exit) ≡ softenedFour (now (seg .entry)) at p1 p0 q0 q1 ⌝ }
 {
-    let a = at_most_123(filter_value(false, p1, p0, q0, q1));
+    let a = at_most_123(filter_value(false, p1, p0, q0, q1)) as i64;
     let half = (a + 12) >> 4;
     cut4(
         seg,
@@ -180,7 +180,7 @@ fn widen_six(seg: &mut [u8], at: usize, p2: u8, p1: u8, p0: u8, q0: u8, q1: u8, 
     requires { ⌜ at + 6 ≤ length (now seg) ⌝ }
     ensures { λ _. ⌜ now (seg .exit) ≡ widenedSix (now (seg .entry)) at p2 p1 p0 q0 q1 q2 ⌝ }
 {
-    let w = filter_value(true, p1, p0, q0, q1);
+    let w = filter_value(true, p1, p0, q0, q1) as i64;
     let a0 = (27 * w + 63) >> 7;
     let a1 = (18 * w + 63) >> 7;
     let a2 = (9 * w + 63) >> 7;

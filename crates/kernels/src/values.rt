@@ -1,8 +1,9 @@
 // RFC 6386, sections 15.2 and 15.3: the tests and the numbers of one segment, from its samples as stored. A difference of samples is that of their signed numbers.
+use arithmetic::signed::clamp;
 ghost use mathlib.Core.Path.{_≡_};
 ghost use lib.Dec.{leb};
 ghost use lib.IntN.{pos, _-ℤ_};
-ghost use Rattle.kernels.specs.Numbers as num;
+ghost use Rattle.arithmetic.specs.Numbers as num;
 ghost use Rattle.kernels.specs.Kernels as spec;
 ghost use Rattle.kernels.specs.Private.Windows as win;
 
@@ -56,33 +57,14 @@ pub(crate) fn low_variance(threshold: u8, p1: u8, p0: u8, q0: u8, q1: u8) -> boo
     near(p1, p0, threshold) & near(q1, q0, threshold)
 }
 
-fn difference(a: u8, b: u8) -> i64
+fn difference(a: u8, b: u8) -> i16
     ensures { λ r. ⌜ r ≡ num.u2s a -ℤ num.u2s b ⌝ }
 {
-    a as i64 - b as i64
-}
-
-// c.
-fn clamp(v: i64) -> i64
-    ensures { λ r. ⌜ r ≡ num.clamp v ⌝ }
-{
-    if v < -128 {
-        -128
-    } else if v < 128 {
-        v
-    } else {
-        127
-    }
-}
-
-pub(crate) fn at_most_123(v: i64) -> i64
-    ensures { λ r. ⌜ r ≡ win.atMost123 v ⌝ }
-{
-    if v < 123 { v } else { 123 }
+    a as i16 - b as i16
 }
 
 // a of common_adjust, before it is divided.
-pub(crate) fn filter_value(outer: bool, p1: u8, p0: u8, q0: u8, q1: u8) -> i64
+pub(crate) fn filter_value(outer: bool, p1: u8, p0: u8, q0: u8, q1: u8) -> i16
     ensures { λ r. ⌜ r ≡ spec.filterValue outer (num.u2s p1) (num.u2s p0) (num.u2s q0) (num.u2s q1) ⌝ }
 {
     let step = 3 * difference(q0, p0);

@@ -1,25 +1,27 @@
 -- Laws of the levels. Assumes nothing.
 use mathlib.Core.Path.{_≡_, refl, sym, ap, subst, _∙_}
 use mathlib.Core.Bool.{Bool, true, false, cond, _||_}
-use Prim.Native.Nat.{ℕ, zero, suc, _≤_, _<_}
-use native.Mathlib.Omega.{arith}
-use borrow.Author.Tests.{ltb-false, lt-ltb, le-ltb}
+use Prim.Native.Nat.{ℕ, _≤_}
+use borrow.Author.Tests.{ltb-false, le-ltb}
 use lib.Dec.{T, lit≤}
 use lib.IntN.{ℤ, pos, negsuc, _+ℤ_, natAbs}
 use lib.Signed.{ltZ, nonNeg}
 use mir.Syntax.{Width}
 use mir.Val.{toZ}
-use Rattle.kernels.specs.Answers.{Outcome, gives, refuses}
-use Rattle.levels.specs.Encodings.{modeOf, referenceOf, interModeOf, badMode, badReference, badInterMode, badEntry}
-use Rattle.levels.specs.Levels.{clampLevel, segmentNumber, levelInSegment, baseLevel, segmentLevel, refDelta, intraModeDelta, interModeDelta, modeDelta, adjustedLevel, interLevel, keyLevel, levelOf, keyLevelOf, keyAnswer, interAnswer}
+use Rattle.arithmetic.specs.Outcome.{Outcome, gives, refuses}
+use Rattle.levels.specs.Encodings.{modeOf, referenceOf, interModeOf, modeCase, referenceCase, interModeCase, badMode, badReference, badInterMode, badEntry}
+use Rattle.levels.specs.Levels.{clampLevel, segmentNumber, levelInSegment, baseLevel, segmentLevel, refDelta, modeDelta, adjustedLevel, interLevel, keyLevel, levelOf, keyLevelOf, keyAnswer, interAnswer}
 use Rattle.levels.specs.declared.config.FrameFilterConfig.{FrameFilterConfig}
 use Rattle.levels.specs.declared.modes.IntraYMode.{IntraYMode}
 use Rattle.levels.specs.declared.modes.MaybeRef.{MaybeRef}
 use Rattle.levels.specs.declared.modes.MaybeRef.the-variants as reference
 use Rattle.levels.specs.declared.modes.MaybeInter.{MaybeInter}
 use Rattle.levels.specs.declared.modes.MaybeInter.the-variants as inter
-use Rattle.kernels.proofs.Ranges as R
-use Rattle.levels.proofs.Encodings.{mode-last, reference-last, inter-mode-last}
+use Rattle.levels.specs.declared.cases.ModeCase.the-variants.{Mode, NoMode}
+use Rattle.levels.specs.declared.cases.ReferenceCase.the-variants.{Reference, NoReference}
+use Rattle.levels.specs.declared.cases.InterModeCase.the-variants.{Inter, NoInter}
+use Rattle.arithmetic.proofs.Ranges as R
+use Rattle.levels.proofs.Encodings.{mode-found, mode-refused, reference-found, reference-refused, inter-found, inter-refused}
 
 -- ---- the key level ignores references
 
@@ -119,85 +121,37 @@ module _ (config : FrameFilterConfig) (segment : ℕ) (r : MaybeRef) (i : MaybeI
   unfolding adjustedLevel
   without-deltas h = rw h
 
--- ---- the deltas, by tests on the bytes
-
-pub ref-none : (config : FrameFilterConfig) (b : ℕ) → b ≡ 0 → refDelta config (referenceOf b) ≡ config .«ref_delta_current»
-unfolding refDelta referenceOf
-ref-none config b h = ap (λ (n : ℕ). refDelta config (referenceOf n)) h
-
-pub ref-last : (config : FrameFilterConfig) (b : ℕ) → b ≡ 1 → refDelta config (referenceOf b) ≡ config .«ref_delta_last»
-unfolding refDelta referenceOf
-ref-last config b h = ap (λ (n : ℕ). refDelta config (referenceOf n)) h
-
-pub ref-golden : (config : FrameFilterConfig) (b : ℕ) → b ≡ 2 → refDelta config (referenceOf b) ≡ config .«ref_delta_golden»
-unfolding refDelta referenceOf
-ref-golden config b h = ap (λ (n : ℕ). refDelta config (referenceOf n)) h
-
-pub ref-altref : (config : FrameFilterConfig) (b : ℕ) → (b ≡ 0 → ⊥) → (b ≡ 1 → ⊥) → (b ≡ 2 → ⊥) → refDelta config (referenceOf b) ≡ config .«ref_delta_altref»
-unfolding refDelta
-ref-altref config b h i j = ap (refDelta config) (reference-last b h i j)
-
-pub intra-B : (config : FrameFilterConfig) (b : ℕ) → 4 ≤ b → intraModeDelta config (modeOf b) ≡ config .«bpred_mode_delta»
-unfolding intraModeDelta
-intra-B config b h = ap (intraModeDelta config) (mode-last b h)
-
-pub intra-not-B : (config : FrameFilterConfig) (b : ℕ) → b < 4 → intraModeDelta config (modeOf b) ≡ pos 0
-unfolding intraModeDelta modeOf
-intra-not-B config zero h = refl
-intra-not-B config (suc zero) h = refl
-intra-not-B config (suc (suc zero)) h = refl
-intra-not-B config (suc (suc (suc zero))) h = refl
-intra-not-B config (suc (suc (suc (suc b)))) h = absurd (omega arith)
-
-pub inter-zero : (config : FrameFilterConfig) (b : ℕ) → b ≡ 1 → interModeDelta config (interModeOf b) ≡ config .«zero_mv_mode_delta»
-unfolding interModeDelta interModeOf
-inter-zero config b h = ap (λ (n : ℕ). interModeDelta config (interModeOf n)) h
-
-pub inter-split : (config : FrameFilterConfig) (b : ℕ) → 5 ≤ b → interModeDelta config (interModeOf b) ≡ config .«split_mv_mode_delta»
-unfolding interModeDelta
-inter-split config b h = ap (interModeDelta config) (inter-mode-last b h)
-
-pub inter-other : (config : FrameFilterConfig) (b : ℕ) → (b ≡ 1 → ⊥) → b < 5 → interModeDelta config (interModeOf b) ≡ config .«other_mv_mode_delta»
-unfolding interModeDelta interModeOf
-inter-other config zero h k = refl
-inter-other config (suc zero) h k = absurd (h refl)
-inter-other config (suc (suc zero)) h k = refl
-inter-other config (suc (suc (suc zero))) h k = refl
-inter-other config (suc (suc (suc (suc zero)))) h k = refl
-inter-other config (suc (suc (suc (suc (suc b))))) h k = absurd (omega arith)
-
-pub mode-delta-intra : (config : FrameFilterConfig) (b : ℕ) (interMode : MaybeInter) (mode : IntraYMode) → b ≡ 0 → modeDelta config (referenceOf b) interMode mode ≡ intraModeDelta config mode
-unfolding modeDelta referenceOf
-mode-delta-intra config b interMode mode h = ap (λ (n : ℕ). modeDelta config (referenceOf n) interMode mode) h
-
-pub mode-delta-inter : (config : FrameFilterConfig) (b : ℕ) (interMode : MaybeInter) (mode : IntraYMode) → (b ≡ 0 → ⊥) → modeDelta config (referenceOf b) interMode mode ≡ interModeDelta config interMode
-unfolding modeDelta referenceOf
-mode-delta-inter config zero interMode mode h = absurd (h refl)
-mode-delta-inter config (suc zero) interMode mode h = refl
-mode-delta-inter config (suc (suc zero)) interMode mode h = refl
-mode-delta-inter config (suc (suc (suc zero))) interMode mode h = refl
-mode-delta-inter config (suc (suc (suc (suc b)))) interMode mode h = refl
-
 -- ---- a test of a signed local, against what it holds
 pub above : {w : Width} {n : ℕ} {z : ℤ} {A : ℕ} → R.Is w n z A → (k : ℤ) (b : Bool) → ltZ k (toZ w n) ≡ b → ltZ k z ≡ b
 above p k b e = sym (ap (λ (v : ℤ). ltZ k v) (p .val)) ∙ e
 
--- ---- the answers
+-- ---- the answers, by the cases of the bytes
 
 module _ (config : FrameFilterConfig) (segment mode : ℕ) where
-  pub key-refuses : 4 < mode → refuses 6 ≡ keyAnswer config segment mode
-  unfolding keyAnswer badMode
-  key-refuses h = rw (lt-ltb 4 mode h)
+  pub key-refuses : modeCase mode ≡ NoMode → refuses 6 ≡ keyAnswer config segment mode
+  unfolding keyAnswer
+  key-refuses e = rw (mode-refused mode e)
 
-  pub key-gives : mode ≤ 4 → (r : ℕ) → r ≡ keyLevelOf config segment mode → gives r ≡ keyAnswer config segment mode
-  unfolding keyAnswer badMode
-  key-gives h r e = rw (le-ltb 4 mode h, e)
+  pub key-gives : (m : IntraYMode) (r : ℕ) → modeCase mode ≡ Mode m → r ≡ keyLevel config segment m → gives r ≡ keyAnswer config segment mode
+  unfolding keyAnswer keyLevelOf
+  key-gives m r e l = rw (mode-found mode m e .0, mode-found mode m e .1, l)
 
-module _ (config : FrameFilterConfig) (segment reference interMode mode : ℕ) (b : Bool) (bad : b ≡ badEntry reference interMode mode) where
-  pub inter-refuses : b ≡ true → refuses 6 ≡ interAnswer config segment reference interMode mode
-  unfolding interAnswer
-  inter-refuses h = rw (← bad, h)
+module _ (config : FrameFilterConfig) (segment reference interMode mode : ℕ) where
+  pub mode-refuses : modeCase mode ≡ NoMode → refuses 6 ≡ interAnswer config segment reference interMode mode
+  unfolding interAnswer badEntry
+  mode-refuses e = rw (mode-refused mode e)
 
-  pub inter-gives : b ≡ false → (r : ℕ) → r ≡ levelOf config segment reference interMode mode → gives r ≡ interAnswer config segment reference interMode mode
-  unfolding interAnswer
-  inter-gives h r e = rw (← bad, h, e)
+  module _ (m : IntraYMode) (e : modeCase mode ≡ Mode m) where
+    pub reference-refuses : referenceCase reference ≡ NoReference → refuses 6 ≡ interAnswer config segment reference interMode mode
+    unfolding interAnswer badEntry
+    reference-refuses f = rw (mode-found mode m e .0, reference-refused reference f)
+
+    module _ (b : MaybeRef) (f : referenceCase reference ≡ Reference b) where
+      pub inter-refuses : interModeCase interMode ≡ NoInter → refuses 6 ≡ interAnswer config segment reference interMode mode
+      unfolding interAnswer badEntry
+      inter-refuses w = rw (mode-found mode m e .0, reference-found reference b f .0, inter-refused interMode w)
+
+      pub inter-gives : (i : MaybeInter) (r : ℕ) → interModeCase interMode ≡ Inter i → r ≡ interLevel config segment b i m → gives r ≡ interAnswer config segment reference interMode mode
+      unfolding interAnswer badEntry levelOf
+      inter-gives i r w l =
+          rw (mode-found mode m e .0, reference-found reference b f .0, inter-found interMode i w .0, mode-found mode m e .1, reference-found reference b f .1, inter-found interMode i w .1, l)

@@ -12,6 +12,12 @@ use Rattle.levels.specs.declared.modes.MaybeRef.{MaybeRef}
 use Rattle.levels.specs.declared.modes.MaybeRef.the-variants as reference
 use Rattle.levels.specs.declared.modes.MaybeInter.{MaybeInter}
 use Rattle.levels.specs.declared.modes.MaybeInter.the-variants as inter
+use Rattle.levels.specs.declared.cases.ModeCase.{ModeCase}
+use Rattle.levels.specs.declared.cases.ModeCase.the-variants.{Mode, NoMode}
+use Rattle.levels.specs.declared.cases.ReferenceCase.{ReferenceCase}
+use Rattle.levels.specs.declared.cases.ReferenceCase.the-variants.{Reference, NoReference}
+use Rattle.levels.specs.declared.cases.InterModeCase.{InterModeCase}
+use Rattle.levels.specs.declared.cases.InterModeCase.the-variants.{Inter, NoInter}
 
 -- ---- the byte of a case
 
@@ -47,6 +53,33 @@ referenceOf b = getD (reference.Absent ∷ reference.Present frame.Last ∷ refe
 unfoldable pub interModeOf : ℕ → MaybeInter
 interModeOf b =
     getD (inter.Absent ∷ inter.Present way.Zero ∷ inter.Present way.Nearest ∷ inter.Present way.Near ∷ inter.Present way.New ∷ inter.Present way.Split ∷ []) b (inter.Present way.Split)
+
+-- ---- the case of a byte, or none: the bytes above 4, above 3 and above 5 have none
+
+unfoldable pub modeCase : ℕ → ModeCase
+modeCase b = getD (Mode mode.Dc ∷ Mode mode.V ∷ Mode mode.H ∷ Mode mode.Tm ∷ Mode mode.B ∷ []) b NoMode
+
+unfoldable pub referenceCase : ℕ → ReferenceCase
+referenceCase b =
+    getD
+    (Reference reference.Absent
+    ∷ Reference (reference.Present frame.Last)
+    ∷ Reference (reference.Present frame.Golden)
+    ∷ Reference (reference.Present frame.AltRef)
+    ∷ [])
+    b NoReference
+
+unfoldable pub interModeCase : ℕ → InterModeCase
+interModeCase b =
+    getD
+    (Inter inter.Absent
+    ∷ Inter (inter.Present way.Zero)
+    ∷ Inter (inter.Present way.Nearest)
+    ∷ Inter (inter.Present way.Near)
+    ∷ Inter (inter.Present way.New)
+    ∷ Inter (inter.Present way.Split)
+    ∷ [])
+    b NoInter
 
 -- ---- refusal 6
 

@@ -4,12 +4,12 @@ use mathlib.Core.Bool.{Bool, true, false}
 use mathlib.Core.List.{List, [], _∷_, map}
 use Prim.Native.Nat.{ℕ}
 use lib.IntN.{ℤ, pos, negsuc}
-use Rattle.kernels.specs.Answers.{Outcome, gives}
-use Rattle.kernels.specs.Numbers.{clamp, u2s, s2u, shr}
-use Rattle.kernels.specs.Limits.{atLeastOne, interiorLimit, hevThreshold, mbedgeLimit, subBedgeLimit, derive}
+use Rattle.arithmetic.specs.Outcome.{Outcome, gives}
+use Rattle.arithmetic.specs.Numbers.{clamp, u2s, s2u, shr}
+use Rattle.arithmetic.specs.Limits.{atLeastOne, interiorLimit, hevThreshold, mbedgeLimit, subBedgeLimit, derive}
 use Rattle.kernels.specs.Kernels as kernels
 use Rattle.kernels.specs.Segment.{Kernel, simpleSegment, subblockFilter, mbFilter, half, taps, smooth, gather, scatter, segment, fitsAt, windowed}
-use Rattle.kernels.specs.declared.limits.LoopFilterParams.{LoopFilterParams}
+use Rattle.arithmetic.specs.declared.limits.LoopFilterParams.{LoopFilterParams}
 use Rattle.levels.specs.Encodings.{modeOf, referenceOf, interModeOf, badMode, badReference, badInterMode, badEntry}
 use Rattle.levels.specs.Levels as levels
 use Rattle.levels.specs.Levels.{keyAnswer, interAnswer}

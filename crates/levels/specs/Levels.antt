@@ -6,7 +6,7 @@ use Prim.Native.Nat.{ℕ, min}
 use lib.IntN.{ℤ, pos, _+ℤ_, natAbs}
 use lib.ListN.{getD}
 use lib.Signed.{ltZ}
-use Rattle.kernels.specs.Answers.{Outcome, gives, refuses}
+use Rattle.arithmetic.specs.Outcome.{Outcome, gives, refuses}
 use Rattle.levels.specs.Encodings.{modeOf, referenceOf, interModeOf, badMode, badEntry}
 use Rattle.levels.specs.declared.config.FrameFilterConfig.{FrameFilterConfig}
 use Rattle.levels.specs.declared.modes.IntraYMode.{IntraYMode}

@@ -1,5 +1,5 @@
 // The settings of a frame's loop filter (RFC 6386, sections 9.3 and 9.4).
-use kernels::limits::LoopFilterParams;
+use arithmetic::limits::LoopFilterParams;
 
 pub struct FrameFilterConfig {
     // filter_type: the simple filter, else the normal one.

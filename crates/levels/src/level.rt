@@ -1,10 +1,20 @@
 // RFC 6386, section 20.6, calculate_filter_parameters: the level of a macroblock.
+use crate::cases::InterModeCase;
+use crate::cases::ModeCase;
+use crate::cases::ReferenceCase;
+use crate::cases::inter_mode_case;
+use crate::cases::mode_case;
+use crate::cases::reference_case;
 use crate::config::FrameFilterConfig;
-use kernels::limits::LoopFilterParams;
+use crate::modes::InterMode;
+use crate::modes::IntraYMode;
+use crate::modes::MaybeInter;
+use crate::modes::MaybeRef;
+use crate::modes::RefFrame;
+use arithmetic::limits::LoopFilterParams;
 ghost use mathlib.Core.Path.{_≡_};
 ghost use Prim.Native.Nat.{min};
 ghost use lib.IntN.{pos};
-ghost use Rattle.levels.specs.Encodings as bytes;
 ghost use Rattle.levels.specs.Levels as spec;
 ghost use Rattle.levels.specs.Answers.{levelOutcome};
 
@@ -20,8 +30,8 @@ fn clamp_level(v: i32) -> u8
 {
     if (LoopFilterParams::MAX_LEVEL as i32) < v {
         LoopFilterParams::MAX_LEVEL
-    } else if v < 0 {
-        0
+    } else if v < (LoopFilterParams::MIN_LEVEL as i32) {
+        LoopFilterParams::MIN_LEVEL
     } else {
         v as u8
     }
@@ -78,44 +88,59 @@ fn segment_level(config: FrameFilterConfig, segment: u8) -> u8
 }
 
 // Without a reference the current frame's delta, else that of Last, Golden or AltRef.
-fn ref_delta(config: FrameFilterConfig, reference: u8) -> i16
-    ensures { λ r. ⌜ r ≡ spec.refDelta config (bytes.referenceOf reference) ⌝ }
+fn ref_delta(config: FrameFilterConfig, reference: MaybeRef) -> i16
+    ensures { λ r. ⌜ r ≡ spec.refDelta config reference ⌝ }
 {
     match reference {
-        0 => config.ref_delta_current,
-        1 => config.ref_delta_last,
-        2 => config.ref_delta_golden,
-        _ => config.ref_delta_altref,
+        MaybeRef::Absent => config.ref_delta_current,
+        MaybeRef::Present(frame) => match frame {
+            RefFrame::Last => config.ref_delta_last,
+            RefFrame::Golden => config.ref_delta_golden,
+            RefFrame::AltRef => config.ref_delta_altref,
+        },
     }
 }
 
 // Of a macroblock with no reference: the B delta if the mode is B.
-fn intra_mode_delta(config: FrameFilterConfig, mode: u8) -> i16
-    ensures { λ r. ⌜ r ≡ spec.intraModeDelta config (bytes.modeOf mode) ⌝ }
+fn intra_mode_delta(config: FrameFilterConfig, mode: IntraYMode) -> i16
+    ensures { λ r. ⌜ r ≡ spec.intraModeDelta config mode ⌝ }
 {
-    if mode < 4 { 0 } else { config.bpred_mode_delta }
-}
-
-// Of a macroblock with a reference: the Zero, the Split or the other delta.
-fn inter_mode_delta(config: FrameFilterConfig, inter_mode: u8) -> i16
-    ensures { λ r. ⌜ r ≡ spec.interModeDelta config (bytes.interModeOf «inter_mode») ⌝ }
-{
-    if inter_mode == 1 {
-        config.zero_mv_mode_delta
-    } else if inter_mode < 5 {
-        config.other_mv_mode_delta
-    } else {
-        config.split_mv_mode_delta
+    match mode {
+        IntraYMode::Dc => 0,
+        IntraYMode::V => 0,
+        IntraYMode::H => 0,
+        IntraYMode::Tm => 0,
+        IntraYMode::B => config.bpred_mode_delta,
     }
 }
 
-fn mode_delta(config: FrameFilterConfig, reference: u8, inter_mode: u8, mode: u8) -> i16
-    ensures { λ r. ⌜ r ≡ spec.modeDelta config (bytes.referenceOf reference) (bytes.interModeOf «inter_mode») (bytes.modeOf mode) ⌝ }
+// Of a macroblock with a reference: the Zero, the Split or the other delta.
+fn inter_mode_delta(config: FrameFilterConfig, inter_mode: MaybeInter) -> i16
+    ensures { λ r. ⌜ r ≡ spec.interModeDelta config «inter_mode» ⌝ }
 {
-    if reference == 0 {
-        intra_mode_delta(config, mode)
-    } else {
-        inter_mode_delta(config, inter_mode)
+    match inter_mode {
+        MaybeInter::Absent => config.other_mv_mode_delta,
+        MaybeInter::Present(way) => match way {
+            InterMode::Zero => config.zero_mv_mode_delta,
+            InterMode::Nearest => config.other_mv_mode_delta,
+            InterMode::Near => config.other_mv_mode_delta,
+            InterMode::New => config.other_mv_mode_delta,
+            InterMode::Split => config.split_mv_mode_delta,
+        },
+    }
+}
+
+fn mode_delta(
+    config: FrameFilterConfig,
+    reference: MaybeRef,
+    inter_mode: MaybeInter,
+    mode: IntraYMode,
+) -> i16
+    ensures { λ r. ⌜ r ≡ spec.modeDelta config reference «inter_mode» mode ⌝ }
+{
+    match reference {
+        MaybeRef::Absent => intra_mode_delta(config, mode),
+        MaybeRef::Present(_) => inter_mode_delta(config, inter_mode),
     }
 }
 
@@ -123,11 +148,11 @@ fn mode_delta(config: FrameFilterConfig, reference: u8, inter_mode: u8, mode: u8
 fn adjusted_level(
     config: FrameFilterConfig,
     segment: u8,
-    reference: u8,
-    inter_mode: u8,
-    mode: u8,
+    reference: MaybeRef,
+    inter_mode: MaybeInter,
+    mode: IntraYMode,
 ) -> i32
-    ensures { λ r. ⌜ r ≡ spec.adjustedLevel config segment (bytes.referenceOf reference) (bytes.interModeOf «inter_mode») (bytes.modeOf mode) ⌝ }
+    ensures { λ r. ⌜ r ≡ spec.adjustedLevel config segment reference «inter_mode» mode ⌝ }
 {
     let level = segment_level(config, segment);
     let by_reference = ref_delta(config, reference);
@@ -139,47 +164,39 @@ fn adjusted_level(
     }
 }
 
-// The inter level of an entry. A byte that 6 would refuse counts as the last case: 4 B, 3 AltRef, 5 Split.
+// The inter level.
 pub fn mb_level(
     config: FrameFilterConfig,
     segment: u8,
-    reference: u8,
-    inter_mode: u8,
-    mode: u8,
+    reference: MaybeRef,
+    inter_mode: MaybeInter,
+    mode: IntraYMode,
 ) -> u8
-    ensures { λ r. ⌜ r ≡ spec.levelOf config segment reference «inter_mode» mode ⌝ }
+    ensures { λ r. ⌜ r ≡ spec.interLevel config segment reference «inter_mode» mode ⌝ }
 {
     let adjusted = adjusted_level(config, segment, reference, inter_mode, mode);
     clamp_level(adjusted)
 }
 
-// The key level of an entry, by the same rule.
-pub fn key_mb_level(config: FrameFilterConfig, segment: u8, mode: u8) -> u8
-    ensures { λ r. ⌜ r ≡ spec.keyLevelOf config segment mode ⌝ }
+// The key level: that of a macroblock with no reference.
+pub fn key_mb_level(config: FrameFilterConfig, segment: u8, mode: IntraYMode) -> u8
+    ensures { λ r. ⌜ r ≡ spec.keyLevel config segment mode ⌝ }
 {
-    mb_level(config, segment, 0, 0, mode)
+    mb_level(config, segment, MaybeRef::Absent, MaybeInter::Absent, mode)
 }
 
 // The key level, or refusal 6: mode above 4.
 pub fn calculate_mb_filter_level(config: FrameFilterConfig, segment: u8, mode: u8) -> LevelAnswer
     ensures { λ r. ⌜ levelOutcome r ≡ spec.keyAnswer config segment mode ⌝ }
 {
-    if 4 < mode {
-        LevelAnswer::BadEntry
-    } else {
-        let key_level = key_mb_level(config, segment, mode);
-        LevelAnswer::Level(key_level)
-    }
+    let ModeCase::Mode(y_mode) = mode_case(mode) else {
+        return LevelAnswer::BadEntry;
+    };
+    let key_level = key_mb_level(config, segment, y_mode);
+    LevelAnswer::Level(key_level)
 }
 
-// Mode above 4, reference above 3 or inter mode above 5.
-fn bad_entry(reference: u8, inter_mode: u8, mode: u8) -> bool
-    ensures { λ r. ⌜ r ≡ bytes.badEntry reference «inter_mode» mode ⌝ }
-{
-    (4 < mode) | (3 < reference) | (5 < inter_mode)
-}
-
-// The inter level, or refusal 6.
+// The inter level, or refusal 6: mode above 4, reference above 3 or inter mode above 5.
 pub fn calculate_mb_filter_level_inter(
     config: FrameFilterConfig,
     segment: u8,
@@ -189,10 +206,15 @@ pub fn calculate_mb_filter_level_inter(
 ) -> LevelAnswer
     ensures { λ r. ⌜ levelOutcome r ≡ spec.interAnswer config segment reference «inter_mode» mode ⌝ }
 {
-    if bad_entry(reference, inter_mode, mode) {
-        LevelAnswer::BadEntry
-    } else {
-        let level = mb_level(config, segment, reference, inter_mode, mode);
-        LevelAnswer::Level(level)
-    }
+    let ModeCase::Mode(y_mode) = mode_case(mode) else {
+        return LevelAnswer::BadEntry;
+    };
+    let ReferenceCase::Reference(ref_frame) = reference_case(reference) else {
+        return LevelAnswer::BadEntry;
+    };
+    let InterModeCase::Inter(way) = inter_mode_case(inter_mode) else {
+        return LevelAnswer::BadEntry;
+    };
+    let level = mb_level(config, segment, ref_frame, way, y_mode);
+    LevelAnswer::Level(level)
 }

@@ -1,7 +1,7 @@
 -- What is returned of an answer is returned of an equal one. Assumes nothing.
 use mathlib.Core.Path.{_≡_, ap, _∙_}
 use Prim.Native.Nat.{ℕ}
-use Rattle.kernels.specs.Answers.{Outcome, numberOf}
+use Rattle.arithmetic.specs.Outcome.{Outcome, numberOf}
 use Rattle.planes.specs.Planes.{Planes}
 use Rattle.levels.specs.declared.config.FrameFilterConfig.{FrameFilterConfig}
 use Rattle.calls.specs.Pass.{Pass, Call, Progress, answer, planesAfter}

@@ -1,7 +1,7 @@
 -- What a C function returns, r: 0, or the number of the refusal; and what its out-parameters hold then: what the call gives, or what was there before where it refuses.
 use mathlib.Core.Path.{_≡_}
 use Prim.Native.Nat.{ℕ}
-use Rattle.kernels.specs.Answers.{Outcome, gives, refuses, numberOf}
+use Rattle.arithmetic.specs.Outcome.{Outcome, gives, refuses, numberOf}
 use Rattle.planes.specs.Planes.{Planes}
 use Rattle.calls.specs.Pass.{Pass, Call, Progress, answer, planesAfter}
 use Rattle.calls.specs.FinalRows.{Rows}

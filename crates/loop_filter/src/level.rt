@@ -2,7 +2,7 @@
 use crate::settings::settings;
 use levels::level::LevelAnswer;
 ghost use mathlib.Core.Path.{_≡_};
-ghost use Rattle.kernels.specs.Answers.{numberOf};
+ghost use Rattle.arithmetic.specs.Outcome.{numberOf};
 ghost use Rattle.levels.specs.Levels.{keyAnswer, interAnswer};
 ghost use Rattle.levels.specs.Coefficients.{hasCoeffs};
 ghost use Rattle.loop_filter.specs.Returned.{Returned};

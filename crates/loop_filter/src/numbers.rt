@@ -1,28 +1,28 @@
 // C functions: numbers and limits.
-use kernels::limits::LoopFilterParams;
+use arithmetic::limits::LoopFilterParams;
 ghost use mathlib.Core.Path.{_≡_};
-ghost use Rattle.kernels.specs.Numbers as num;
-ghost use Rattle.kernels.specs.Limits as limits;
+ghost use Rattle.arithmetic.specs.Numbers as num;
+ghost use Rattle.arithmetic.specs.Limits as limits;
 
 #[no_mangle]
 pub extern "C" fn vp8lf_clamp_s8(v: i32) -> i8
     ensures { λ r. ⌜ r ≡ num.clamp v ⌝ }
 {
-    kernels::numbers::clamp_s8(v)
+    arithmetic::numbers::clamp_s8(v)
 }
 
 #[no_mangle]
 pub extern "C" fn vp8lf_u2s(v: u8) -> i8
     ensures { λ r. ⌜ r ≡ num.u2s v ⌝ }
 {
-    kernels::numbers::u2s(v)
+    arithmetic::numbers::u2s(v)
 }
 
 #[no_mangle]
 pub extern "C" fn vp8lf_s2u(v: i32) -> u8
     ensures { λ r. ⌜ r ≡ num.s2u v ⌝ }
 {
-    kernels::numbers::s2u(v)
+    arithmetic::numbers::s2u(v)
 }
 
 #[no_mangle]

@@ -2,7 +2,8 @@
 use kernels::answers::AdjustAnswer;
 use kernels::answers::KernelAnswer;
 ghost use mathlib.Core.Path.{_≡_};
-ghost use Rattle.kernels.specs.Answers.{numberOf, kernelOutcome};
+ghost use Rattle.arithmetic.specs.Outcome.{numberOf};
+ghost use Rattle.kernels.specs.Answers.{kernelOutcome};
 ghost use Rattle.kernels.specs.Segment.{commonAdjust, simpleSegment, subblockFilter, mbFilter, windowed, windowAnswer, adjustAnswer};
 ghost use Rattle.loop_filter.specs.Returned.{Returned};
 

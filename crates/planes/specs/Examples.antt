@@ -6,7 +6,7 @@ use mathlib.Core.List.{List, [], _∷_, _++_}
 use Prim.Native.Nat.{ℕ, zero, suc, _+_, _-_, _*_, _≤_}
 use native.Mathlib.Omega.{arith}
 use lib.ListN.{getD, replicate}
-use Rattle.kernels.specs.Numbers.{clamp, u2s, s2u, shr}
+use Rattle.arithmetic.specs.Numbers.{clamp, u2s, s2u, shr}
 use Rattle.kernels.specs.Kernels as kernels
 use Rattle.kernels.specs.Segment.{Kernel, simpleSegment, subblockFilter, mbFilter, half, taps, smooth, gather, scatter, segment}
 use Rattle.planes.specs.Steps.{steps, Clear}

@@ -1,4 +1,4 @@
-// Replays recorded calls of every exported function on standard input, and marks each that is answered as it was recorded.
+// Replays recorded calls of the functions that the Rust has too, from standard input, and marks each that is answered as it was recorded.
 mod film;
 mod input;
 mod marks;

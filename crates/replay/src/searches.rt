@@ -23,9 +23,9 @@ use search::answers::LevelOnlyAnswer;
 use search::answers::ParamsAnswer;
 use search::search::select_filter_level;
 use search::search::select_filter_level_inter;
-use search::search::select_filter_params;
 use search::search::select_filter_params_inter;
 use source::borrowed::reconstruction_ssd_from;
+use source::borrowed::select_filter_params_from;
 use sums::answers::SumAnswer;
 use sums::sums::reconstruction_ssd;
 
@@ -93,7 +93,7 @@ fn key_params<'s>(
     segments: &[u8; 4],
     flags: &[u8; 4],
 ) -> ParamsAnswer {
-    select_filter_params(
+    select_filter_params_from(
         y,
         u,
         v,

@@ -4,7 +4,7 @@ use mathlib.Core.Bool.{true, false}
 use Prim.Native.Nat.{ℕ, _^_}
 use lib.Dec.{eqb, leb}
 use borrow.Author.Tests.{eq-eqb, ne-eqb, lt-leb}
-use Rattle.kernels.specs.Answers.{gives}
+use Rattle.arithmetic.specs.Outcome.{gives}
 use Rattle.planes.specs.Steps.{steps}
 use Rattle.planes.specs.Planes.{Planes}
 use Rattle.calls.specs.Pass.{Pass}

@@ -5,7 +5,7 @@ use Prim.Native.Nat.{ℕ, _<_}
 use native.Mathlib.Omega.{arith}
 use lib.Dec.{eqb}
 use borrow.Author.Tests.{ne-eqb, eqb-true, le-ltb}
-use Rattle.kernels.specs.Answers.{Outcome, gives, refuses, numberOf}
+use Rattle.arithmetic.specs.Outcome.{Outcome, gives, refuses, numberOf}
 use Rattle.planes.specs.Planes.{Planes, Grid, macroblocks}
 use Rattle.planes.specs.GridRefusals.{zeroGrid, tooLarge, badStrides, shortPlanes, afterGrid, pastGrid}
 use Rattle.calls.specs.Pass.{Pass, Call, Progress, refusal, answer, count, next, planesAfter}

@@ -9,11 +9,11 @@ use lib.IntN.{ℤ}
 use lib.ListN.{getD, set, take, drop}
 use borrow.Author.Tests.{lt-leb}
 use Rattle.levels.specs.declared.config.FrameFilterConfig.{FrameFilterConfig}
-use Rattle.kernels.specs.Numbers.{clamp, s2u}
+use Rattle.arithmetic.specs.Numbers.{clamp, s2u}
 use Rattle.kernels.specs.Kernels as K
 use Rattle.kernels.specs.Kernels.{adjustedP0, adjustedQ0}
 use Rattle.kernels.specs.Segment.{Kernel, commonAdjust, simpleSegment, subblockFilter, mbFilter, taps, smooth, gather, scatter, segment}
-use Rattle.kernels.proofs.Ranges.{clamp-in, up-lt}
+use Rattle.arithmetic.proofs.Ranges.{clamp-in, up-lt}
 use Rattle.planes.specs.Steps.{steps}
 use Rattle.planes.specs.Planes.{Plane, luma, chromaU, chromaV, Planes, Grid, side, plane, onPlane, macroblocks, gridRow, gridColumn}
 use Rattle.planes.specs.Edges.{Edge, edgeTap, filterEdge, places}

@@ -8,7 +8,7 @@ use mir.Syntax.{w8}
 use mir.Val.{Fits}
 use denote.Enum.Declared.{tagOf}
 use types.Run.{OneOf}
-use Rattle.kernels.specs.Answers.{gives}
+use Rattle.arithmetic.specs.Outcome.{gives}
 use Rattle.planes.specs.Planes.{luma, chromaU, chromaV, Planes, Grid, plane}
 use Rattle.planes.specs.Layout.{planesOf}
 use Rattle.calls.specs.Pass.{Pass}

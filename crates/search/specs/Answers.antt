@@ -1,5 +1,5 @@
 -- What the searches answer, in document 01's terms.
-use Rattle.kernels.specs.Answers.{Outcome, gives, refuses}
+use Rattle.arithmetic.specs.Outcome.{Outcome, gives, refuses}
 use Rattle.sums.specs.Answers.{searchRefusalNumber}
 use Rattle.search.specs.Search.{Choice, LevelChoice}
 use Rattle.search.specs.declared.answers.ParamsAnswer.{ParamsAnswer}

@@ -1,11 +1,11 @@
--- The search for the level and the sharpness with the smallest error sum, what a call of it answers, and what it leaves in the scratch planes (document 01, Search).
+-- The search for a level and a sharpness: of the pairs that it tries, the one with the smallest error sum. What a call of it answers, and what it leaves in the scratch planes (document 01, Search).
 -- One text for the key search and the inter search: `Pass` says in what they differ.
 use mathlib.Core.Path.{_≡_}
 use mathlib.Core.Bool.{Bool, false, cond, _||_}
 use mathlib.Core.List.{List, [], _∷_}
 use Prim.Native.Nat.{ℕ, min}
 use lib.Dec.{eqb}
-use Rattle.kernels.specs.Answers.{Outcome, gives, refuses}
+use Rattle.arithmetic.specs.Outcome.{Outcome, gives, refuses}
 use Rattle.levels.specs.declared.config.FrameFilterConfig.{FrameFilterConfig}
 use Rattle.planes.specs.Planes.{Planes, Grid, macroblocks}
 use Rattle.planes.specs.GridRefusals.{zeroGrid, pastGrid}

@@ -1,4 +1,4 @@
-// The search for the level and the sharpness with the smallest error sum (document 01, Search).
+// The search for a level and a sharpness: of the pairs that it tries, the one with the smallest error sum (document 01, Search).
 pub mod answers;
 mod candidates;
 mod refusal;

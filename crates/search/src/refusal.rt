@@ -5,7 +5,7 @@ use sums::answers::SearchRefusal;
 use sums::answers::SumAnswer;
 use sums::answers::search_refusal_number;
 ghost use mathlib.Core.Path.{_≡_};
-ghost use Rattle.kernels.specs.Answers.{numberOf};
+ghost use Rattle.arithmetic.specs.Outcome.{numberOf};
 ghost use Rattle.calls.specs.Answers.{passOutcome};
 ghost use Rattle.sums.specs.Answers.{sumOutcome};
 ghost use Rattle.search.specs.Private.SearchCode.{judgedOf};

@@ -1,4 +1,4 @@
-// The search for the level and the sharpness with the smallest error sum (document 01, Search; the Rust's select_filter_params and select_filter_level).
+// The search for a level and a sharpness: of the pairs that it tries, the one with the smallest error sum (document 01, Search; the Rust's select_filter_params and select_filter_level).
 use crate::answers::LevelOnlyAnswer;
 use crate::answers::ParamsAnswer;
 use crate::candidates::Setup;

@@ -277,3 +277,58 @@ pub fn reconstruction_ssd_from<'s>(
     };
     reconstruction_ssd_of(y, u, v, layout, src)
 }
+
+// The source record made of slices and numbers, and passed on to the search.
+pub fn select_filter_params_from<'s>(
+    y: &[u8],
+    u: &[u8],
+    v: &[u8],
+    scratch_y: &mut [u8],
+    scratch_u: &mut [u8],
+    scratch_v: &mut [u8],
+    layout: PlaneLayout,
+    modes: &[u8],
+    segments: &[u8],
+    flags: &[u8],
+    config: FrameFilterConfig,
+    width: usize,
+    height: usize,
+    src_y: &'s [u8],
+    src_u: &'s [u8],
+    src_v: &'s [u8],
+    src_y_stride: usize,
+    src_uv_stride: usize,
+) -> ParamsAnswer
+    ensures { λ r. ⌜ Searched keyPass
+        (keySearch layout config
+        (keyLists (now (modes .entry)) (now (segments .entry)) (now (flags .entry)))
+        (planesOf (now (y .entry)) (now (u .entry)) (now (v .entry)))
+        (planesOf (now («scratch_y» .entry)) (now («scratch_u» .entry)) (now («scratch_v» .entry)))
+        (sourceOf width height (now («src_y» .entry)) (now («src_u» .entry)) (now («src_v» .entry)) «src_y_stride» «src_uv_stride»))
+        (paramsOutcome r)
+        (planesOf (now («scratch_y» .exit)) (now («scratch_u» .exit)) (now («scratch_v» .exit))) ⌝ }
+{
+    let src = SourcePlanes {
+        width: width,
+        height: height,
+        y: src_y,
+        u: src_u,
+        v: src_v,
+        y_stride: src_y_stride,
+        uv_stride: src_uv_stride,
+    };
+    select_filter_params_of(
+        y,
+        u,
+        v,
+        scratch_y,
+        scratch_u,
+        scratch_v,
+        layout,
+        modes,
+        segments,
+        flags,
+        config,
+        src,
+    )
+}

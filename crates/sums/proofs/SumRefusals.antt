@@ -8,7 +8,7 @@ use native.Mathlib.Omega.{arith}
 use lib.Dec.{ltb, leb, eqb}
 use lib.ListN.{length}
 use borrow.Author.Tests.{le-leb, lt-leb, lt-ltb, le-ltb, ne-eqb, ltb-true, ltb-false}
-use Rattle.kernels.specs.Answers.{gives, refuses}
+use Rattle.arithmetic.specs.Outcome.{gives, refuses}
 use Rattle.planes.specs.Planes.{Plane, luma, chromaU, chromaV, Planes, Grid, side, stride, plane, PlanesHold}
 use Rattle.planes.specs.GridRefusals.{pastGrid}
 use Rattle.planes.proofs.GridLaws.{neither}

@@ -1,6 +1,6 @@
 -- What the sums answer, and the numbers of the refusals of sums and searches, in document 01's terms.
 use Prim.Native.Nat.{ℕ}
-use Rattle.kernels.specs.Answers.{Outcome, gives, refuses}
+use Rattle.arithmetic.specs.Outcome.{Outcome, gives, refuses}
 use Rattle.sums.specs.declared.answers.SearchRefusal.{SearchRefusal}
 use Rattle.sums.specs.declared.answers.SearchRefusal.the-variants.{TooLarge, BadStrides, ShortPlane, BadEntry, SourceTooLarge, BadSource, SumTooLarge}
 use Rattle.sums.specs.declared.answers.SumAnswer.{SumAnswer}

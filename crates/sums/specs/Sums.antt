@@ -4,7 +4,7 @@ use mathlib.Core.List.{List}
 use Prim.Native.Nat.{ℕ, zero, suc, _+_, _*_, _-_, _^_}
 use lib.Dec.{leb, eqb}
 use lib.ListN.{getD}
-use Rattle.kernels.specs.Answers.{Outcome, gives, refuses}
+use Rattle.arithmetic.specs.Outcome.{Outcome, gives, refuses}
 use Rattle.planes.specs.Planes.{Plane, luma, chromaU, chromaV, Planes, Grid, stride, plane}
 use Rattle.planes.specs.GridRefusals.{pastGrid}
 use Rattle.sums.specs.Source.{Source, wide, high, strideOf, sourceTooLarge, badSource}

@@ -1,4 +1,4 @@
-//! Calls the Rattle loop filter through its C entries and the oracle side by side.
+//! Calls the Rattle loop filter through its C functions and the oracle side by side.
 //!
 //! The modules in `MODULES` compare one layer each. They run their kinds of cases through [`Tally::run`], which counts
 //! them, prints what differs, and fails on a kind or a class that did not occur. [`soak`] draws from the same modules

@@ -1,5 +1,5 @@
 //! Error sums and the search for level and sharpness: random small pictures, damaged ones and film frames. Compared are
-//! the answers of all entries, the number of candidates, every scratch sample, and that nothing else moved.
+//! the answers of all functions, the number of candidates, every scratch sample, and that nothing else moved.
 
 use crate::Plan;
 use crate::call::{Call, LARGEST, PASSES, Pass, Planes, SIDE, run_rust};

@@ -1,4 +1,4 @@
-//! Random calls of every entry, valid and damaged, one after the other until the time is up. A seed determines which.
+//! Random calls of every C function, valid and damaged, one after the other until the time is up. A seed determines which.
 
 use crate::call::PASSES;
 use crate::tally::grouped;
@@ -7,7 +7,7 @@ use rules::random::Random;
 use std::process::ExitCode;
 use std::time::{Duration, Instant, SystemTime, UNIX_EPOCH};
 
-/// The entries of the header in its order, without `vp8lf_`, and whether each can refuse a call.
+/// The functions of the header in its order, without `vp8lf_`, and whether each can refuse a call.
 const ENTRIES: [(&str, bool); 19] = [
     ("clamp_s8", false),
     ("u2s", false),
@@ -30,7 +30,7 @@ const ENTRIES: [(&str, bool); 19] = [
     ("select_filter_level_inter", true),
 ];
 
-/// Draws one call, or one of each of several entries, compares it and counts it.
+/// Draws one call, or one of each of several functions, compares it and counts it.
 pub type Draw = Box<dyn FnMut(&mut Random, &mut Calls) -> Result<(), String>>;
 
 /// What is drawn in turn, and how often in each turn. The passes and the search take most of the time.
@@ -50,14 +50,14 @@ fn draws() -> Vec<(usize, Draw)> {
     draws
 }
 
-/// How many calls of each entry were made, and how many of them were refused.
+/// How many calls of each function were made, and how many of them were refused.
 #[derive(Clone, Debug, Default, PartialEq)]
 pub struct Calls([[u64; 2]; ENTRIES.len()]);
 
 impl Calls {
-    /// Counts a call of an entry that answers 0 or the number of a refusal.
+    /// Counts a call of a function that answers 0 or the number of a refusal.
     pub fn add(&mut self, entry: &str, answer: u8) {
-        let at = ENTRIES.iter().position(|(name, _)| *name == entry).expect("an entry of the header");
+        let at = ENTRIES.iter().position(|(name, _)| *name == entry).expect("a function of the header");
         self.0[at][0] += 1;
         self.0[at][1] += (answer != 0) as u64;
     }
@@ -70,7 +70,7 @@ impl Calls {
         self.0.iter().fold([0, 0], |[calls, refused], counts| [calls + counts[0], refused + counts[1]])
     }
 
-    /// The entries that were not called, and those that never refused though they can.
+    /// The functions that were not called, and those that never refused though they can.
     fn missing(&self) -> Vec<String> {
         let missing = |(name, refuses, counts): (&str, bool, [u64; 2])| match counts {
             [0, _] => Some(format!("vp8lf_{name} was not called")),
@@ -111,7 +111,7 @@ impl Soak {
         Ok(())
     }
 
-    /// What failed: the first difference, or else entries that were not reached.
+    /// What failed: the first difference, or else functions that were not reached.
     fn failures(&self, outcome: Result<(), String>) -> Vec<String> {
         match outcome {
             Err(difference) => vec![format!("after {} calls: {difference}", grouped(self.calls.sum()[0]))],
@@ -152,7 +152,7 @@ pub fn run(seconds: u64, seed: u64) -> ExitCode {
         println!("soak: FAILED, {calls} calls, seed {seed}");
         return ExitCode::FAILURE;
     }
-    println!("soak: {calls} calls of {} entries, {refused} refused, all equal, seed {seed}", ENTRIES.len());
+    println!("soak: {calls} calls of {} functions, {refused} refused, all equal, seed {seed}", ENTRIES.len());
     ExitCode::SUCCESS
 }
 

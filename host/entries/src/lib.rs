@@ -1,4 +1,4 @@
-//! The entries of `include/vp8_loop_filter.h`, on slices and the Rust's settings. `vp8_loop_filter` declares them.
+//! The C functions of `include/vp8_loop_filter.h`, on slices and the Rust's settings. `vp8_loop_filter` declares them.
 
 pub mod bytes;
 
@@ -10,7 +10,7 @@ pub use rules::Layout;
 
 pub use lent::{clamp_s8, common_adjust, derive, mb_filter, mb_has_coeffs, s2u, simple_segment, subblock_filter, u2s};
 
-/// Which pass an entry runs.
+/// Which pass a C function runs.
 #[derive(Clone, Copy, Debug, PartialEq)]
 pub enum Pass {
     Key,
@@ -18,7 +18,7 @@ pub enum Pass {
 }
 
 impl Pass {
-    /// The name of its entry after `vp8lf_`.
+    /// The name of its C function after `vp8lf_`.
     pub fn entry(self) -> &'static str {
         match self {
             Pass::Key => "filter_frame",
@@ -38,7 +38,7 @@ pub struct Lists<'a> {
 }
 
 impl Lists<'_> {
-    /// The lists that an entry takes.
+    /// The lists that a C function takes.
     fn of(&self, pass: Pass) -> ByteLists<'_> {
         let Lists { modes, segments, flags, references, inter_modes } = *self;
         ByteLists { modes, segments, flags, inter: (pass == Pass::Inter).then_some([references, inter_modes]) }
@@ -83,7 +83,7 @@ pub enum Sought {
 }
 
 impl Sought {
-    /// The name of its entry after `vp8lf_`.
+    /// The name of its C function after `vp8lf_`.
     pub fn entry(self, pass: Pass) -> &'static str {
         match (self, pass) {
             (Sought::Params, Pass::Key) => "select_filter_params",

@@ -1,6 +1,6 @@
-//! The C entries of the library, on slices and records. The one module with `unsafe`.
+//! The C functions of the library, on slices and records. The one module with `unsafe`.
 //!
-//! Each function answers what its entry returns: 0, or the number of a refusal. The hosts that compare and time the
+//! Each function answers what its C function returns: 0, or the number of a refusal. The hosts that compare and time the
 //! library call it through this module too. It is no part of the crate's interface.
 
 mod raw;
@@ -67,7 +67,7 @@ pub fn calculate_mb_filter_level_inter(
     unsafe { raw::vp8lf_calculate_mb_filter_level_inter(config, segment, reference, inter_mode, mode, level) }
 }
 
-/// Calls an entry on planes, then what else it takes.
+/// Calls a C function on planes, then what else it takes.
 macro_rules! on_planes {
     ($entry:ident, $pointer:ident, $planes:expr, $($rest:expr),*) => {
         // SAFETY: each slice's own pointer and length. The borrows keep apart what is written and what is read.
@@ -89,7 +89,7 @@ macro_rules! on_planes {
     };
 }
 
-/// Calls an entry on planes and a source, then what else it takes.
+/// Calls a C function on planes and a source, then what else it takes.
 macro_rules! against_source {
     ($entry:ident, $planes:expr, $src:expr, $($rest:expr),*) => {
         on_planes!(

@@ -72,6 +72,9 @@ where
 /// Together they leave what one call leaves. Samples and records of macroblocks not yet begun may still change between
 /// calls: rows that [`final_rows`] counts do not depend on them.
 ///
+/// So a caller decodes a row, puts its samples and records in, filters, asks [`final_rows`], sends, and repeats. That a row
+/// once counted stays through all of this is the theorem `while-decoding` of `crates/calls/proofs/SentRows.antt`.
+///
 /// ```
 /// use vp8_loop_filter::{FrameFilterConfig, IntraYMode, KeyframePlanes, MacroblockModes};
 /// use vp8_loop_filter::{filter_frame_from, final_rows};

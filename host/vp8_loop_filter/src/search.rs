@@ -41,8 +41,11 @@ pub fn reconstruction_ssd<'a>(planes: impl Into<Planes<'a>>, src: &SourcePlanes<
     answer(number, || Lent::from(&planes).and_source(src)).map(|()| sum)
 }
 
-/// The level and sharpness whose pass over the reconstruction comes nearest to the source. `inter` is given for an
-/// inter frame. Can be refused with 1, 2, 3, 8, 9 or 10; lists of wrong length answer level 0.
+/// The level and sharpness whose pass over the reconstruction comes nearest to the source, of the pairs that the search
+/// tries: level 0, which is unfiltered; 4, 8 to 60 and 63 at the base sharpness, the lesser of `base`'s own and 7; the
+/// levels within 3 of the best; the other sharpness values at the best level. The earlier of equal ones stays. `inter` is
+/// given for an inter frame. Can be refused with 1, 2, 3, 8, 9 or 10; lists of wrong length and a grid without columns or
+/// rows answer level 0 and the base sharpness.
 pub fn select_filter_params<'a, M>(
     planes: impl Into<Planes<'a>>,
     modes: &[M],
@@ -60,7 +63,8 @@ where
     Ok((choice.level, choice.sharpness))
 }
 
-/// [`select_filter_params`] in lent scratch, whose grid is left as the chosen pass leaves the reconstruction.
+/// [`select_filter_params`] in lent scratch, whose grid is left as the chosen pass leaves the reconstruction, or as an
+/// unfiltered copy of it for level 0.
 ///
 /// ```
 /// use vp8_loop_filter::{FrameFilterConfig, KeyframePlanes, MacroblockModes, Scratch, SourcePlanes};

@@ -5,7 +5,7 @@ use Prim.Native.Nat.{ℕ, zero, suc, _+_, _*_, _≤_, _<_}
 use lib.ListN.{getD, set}
 use lib.IntN.{ℤ, pos, _+ℤ_, _-ℤ_}
 use lib.Signed.{mag, ltZ}
-use Rattle.kernels.specs.Numbers.{clamp, u2s, s2u, shr}
+use Rattle.arithmetic.specs.Numbers.{clamp, u2s, s2u, shr}
 use Rattle.kernels.specs.Kernels.{part, gainOf, lossOf}
 use Rattle.kernels.specs.Segment.{Kernel, subblockFilter, mbFilter, smooth}
 use Rattle.planes.specs.Steps.{steps}
@@ -133,9 +133,6 @@ runOfFour k n t = getD t 0 [] ∷ table n (λ j. edgeOf k t j .p0) ∷ table n (
 -- the larger of two
 unfoldable pub larger : ℤ → ℤ → ℤ
 larger a b = cond (ltZ a b) b a
-
-unfoldable pub atMost123 : ℤ → ℤ
-atMost123 a = cond (ltZ a (pos 124)) a (pos 123)
 
 -- mb_filter after its tests, with w as 0 where nothing changes
 unfoldable pub widenedTaps : (high : Bool) (w p2 p1 p0 q0 q1 q2 : ℤ) → InnerTaps

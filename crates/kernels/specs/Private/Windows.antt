@@ -7,7 +7,7 @@ use lib.Dec.{leb}
 use lib.ListN.{set}
 use lib.IntN.{ℤ, pos, _+ℤ_, _-ℤ_, natAbs}
 use lib.Signed.{ltZ, leZ}
-use Rattle.kernels.specs.Numbers.{u2s, s2u}
+use Rattle.arithmetic.specs.Numbers.{u2s, s2u}
 use Rattle.kernels.specs.Kernels.{apart, adjustedP0, adjustedQ0, outerStep, part, wideValue}
 
 -- ---- tests
@@ -23,9 +23,6 @@ unfoldable pub lowVariance : (threshold P1 P0 Q0 Q1 : ℕ) → Bool
 lowVariance threshold P1 P0 Q0 Q1 = leb (apart (pos P1) (pos P0)) threshold && leb (apart (pos Q1) (pos Q0)) threshold
 
 -- ---- numbers
-
-unfoldable pub atMost123 : ℤ → ℤ
-atMost123 v = cond (ltZ v (pos 123)) v (pos 123)
 
 unfoldable pub inByte : ℤ → Bool
 inByte v = leZ (pos 0) v && ltZ v (pos 256)

@@ -1,4 +1,4 @@
-//! The entries of `include/vp8_loop_filter.h`, declared once for all hosts.
+//! The C functions of `include/vp8_loop_filter.h`, declared once for all hosts.
 //!
 //! Those that take the settings of a frame as numbers are functions here that take them as a record.
 
@@ -77,7 +77,7 @@ unsafe extern "C" {
     ) -> u8;
 }
 
-/// Declares entries that take the settings of a frame as numbers. The settings stand where the `;` is.
+/// Declares C functions that take the settings of a frame as numbers. The settings stand where the `;` is.
 macro_rules! with_settings {
     ($(fn $name:ident($($before:ident: $before_type:ty),*; $($after:ident: $after_type:ty),* $(,)?);)*) => {
         $(#[allow(clippy::too_many_arguments)]
@@ -163,7 +163,7 @@ with_settings! {
     );
 }
 
-/// Declares the entries of the search: the lists that each takes besides the first three, and what it writes.
+/// Declares the C functions of the search: the lists that each takes besides the first three, and what it writes.
 macro_rules! searches {
     ($(fn $name:ident($($list:ident: $list_len:ident),*; $($out:ident: $out_type:ty),*);)*) => {
         with_settings! {

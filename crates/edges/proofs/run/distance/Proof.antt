@@ -4,7 +4,7 @@ use mathlib.Core.Path.{_∙_}
 use mathlib.Core.Bool.{true, false}
 use lib.IntN.{pos, _-ℤ_}
 use mir.Syntax.{w16}
-use Rattle.kernels.proofs.Ranges as R
+use Rattle.arithmetic.proofs.Ranges as R
 use Rattle.edges.proofs.TapNumbers as N
 use Rattle.kernels.specs.Kernels.{apart}
 use Rattle.edges.proofs.run.distance.Statement.{statement}

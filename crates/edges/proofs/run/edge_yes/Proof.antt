@@ -5,7 +5,7 @@ use lib.IntN.{ℤ, pos, _*ℤ_}
 use lib.Signed.{leZ}
 use mir.Syntax.{w16}
 use mir.Val.{toZ, ofZ}
-use Rattle.kernels.proofs.Ranges as R
+use Rattle.arithmetic.proofs.Ranges as R
 use Rattle.edges.proofs.TapNumbers as N
 use Rattle.kernels.specs.Kernels.{apart, edgeValue}
 use borrow.Author.Needs.{needs}

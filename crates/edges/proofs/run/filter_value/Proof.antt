@@ -5,9 +5,9 @@ use mathlib.Core.Bool.{cond}
 use lib.IntN.{pos, _-ℤ_}
 use mir.Syntax.{w16}
 use mir.Val.{ofZ}
-use Rattle.kernels.proofs.Ranges as R
+use Rattle.arithmetic.proofs.Ranges as R
 use Rattle.edges.proofs.TapNumbers as N
-use Rattle.kernels.specs.Numbers.{clamp}
+use Rattle.arithmetic.specs.Numbers.{clamp}
 use Rattle.kernels.specs.Kernels.{filterValue}
 use lib.Dec.{lit<}
 use borrow.Author.Needs.{needs}

@@ -4,7 +4,7 @@ use mathlib.Core.Path.{_∙_}
 use lib.IntN.{pos}
 use lib.Signed.{ltZ}
 use mir.Syntax.{w16}
-use Rattle.kernels.proofs.Ranges as R
+use Rattle.arithmetic.proofs.Ranges as R
 use Rattle.edges.proofs.TapNumbers as N
 use Rattle.kernels.specs.Kernels.{apart, hev}
 use Prim.Native.Nat.{max}

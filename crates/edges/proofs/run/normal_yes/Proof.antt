@@ -5,7 +5,7 @@ use mathlib.Core.Bool.{_&&_}
 use lib.IntN.{pos}
 use lib.Signed.{leZ}
 use mir.Syntax.{w16}
-use Rattle.kernels.proofs.Ranges as R
+use Rattle.arithmetic.proofs.Ranges as R
 use Rattle.edges.proofs.TapNumbers as N
 use Prim.Native.Nat.{max}
 use Rattle.kernels.specs.Kernels.{apart, edgeValue, filterYes}

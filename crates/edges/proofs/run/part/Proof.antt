@@ -4,7 +4,7 @@ use mathlib.Core.Path.{_∙_}
 use native.Mathlib.Omega.{arith}
 use lib.IntN.{pos}
 use mir.Syntax.{w16}
-use Rattle.kernels.proofs.Ranges as R
+use Rattle.arithmetic.proofs.Ranges as R
 use Rattle.edges.proofs.TapNumbers as N
 use borrow.Author.Needs.{needs}
 use Rattle.edges.proofs.run.part.Statement.{statement}

@@ -1,9 +1,9 @@
 -- `edges::run::raised` meets its contract.
 -- Assumes nothing.
 use mathlib.Core.Path.{refl, ap, _∙_}
-use Rattle.kernels.proofs.Ranges as R
+use Rattle.arithmetic.proofs.Ranges as R
 use Rattle.edges.proofs.TapNumbers as N
-use Rattle.kernels.specs.Numbers.{clamp}
+use Rattle.arithmetic.specs.Numbers.{clamp}
 use borrow.Author.Needs.{needs}
 use Rattle.edges.proofs.run.raised.Statement.{statement}
 use Rattle.edges.proofs.run.raised.Tie as tie

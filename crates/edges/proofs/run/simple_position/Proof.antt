@@ -5,7 +5,7 @@ use mathlib.Core.Bool.{true, cond}
 use lib.IntN.{pos}
 use mir.Syntax.{w16}
 use mir.Val.{ofZ}
-use Rattle.kernels.proofs.Ranges as R
+use Rattle.arithmetic.proofs.Ranges as R
 use Rattle.edges.proofs.TapNumbers as N
 use lib.Dec.{leb, lit<}
 use Rattle.kernels.specs.Kernels.{edgeValue, filterValue, gainOf, lossOf}

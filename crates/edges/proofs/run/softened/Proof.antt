@@ -5,9 +5,9 @@ use mathlib.Core.Bool.{cond}
 use lib.IntN.{ℤ, pos, _+ℤ_}
 use mir.Syntax.{w16}
 use mir.Val.{ofZ}
-use Rattle.kernels.proofs.Ranges as R
+use Rattle.arithmetic.proofs.Ranges as R
 use Rattle.edges.proofs.TapNumbers as N
-use Rattle.kernels.specs.Numbers.{shr}
+use Rattle.arithmetic.specs.Numbers.{shr}
 use Rattle.kernels.specs.Kernels.{gainOf, lossOf}
 use Rattle.edges.specs.Private.Runs.{softenedTaps}
 use lib.Dec.{lit<}

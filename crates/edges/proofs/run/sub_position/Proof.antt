@@ -5,7 +5,7 @@ use mathlib.Core.Bool.{cond}
 use lib.IntN.{pos}
 use mir.Syntax.{w16}
 use mir.Val.{ofZ}
-use Rattle.kernels.proofs.Ranges as R
+use Rattle.arithmetic.proofs.Ranges as R
 use Rattle.edges.proofs.TapNumbers as N
 use Rattle.kernels.specs.Kernels.{filterYes, hev, filterValue}
 use Rattle.edges.specs.Private.Runs.{softenedTaps}

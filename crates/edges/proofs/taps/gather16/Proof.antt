@@ -5,9 +5,9 @@ use Prim.Native.Nat.{_+_, _-_, _≤_}
 use native.Mathlib.Omega.{arith}
 use lib.ListN.{length, getD}
 use mir.Syntax.{w16}
-use Rattle.kernels.proofs.Ranges as R
+use Rattle.arithmetic.proofs.Ranges as R
 use denote.Ref.{now}
-use Rattle.kernels.specs.Numbers.{u2s}
+use Rattle.arithmetic.specs.Numbers.{u2s}
 use Rattle.edges.specs.Private.Runs.{rowAt}
 use Rattle.edges.proofs.Tables.{fill, fill-none, fill-turn, fill-end}
 use Rattle.edges.proofs.taps.gather16.Statement.{statement}

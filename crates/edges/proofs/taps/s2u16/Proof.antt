@@ -3,7 +3,7 @@
 use mathlib.Core.Path.{sym, ap, _∙_}
 use lib.IntN.{natAbs}
 use mir.Syntax.{w8, w16}
-use Rattle.kernels.proofs.Ranges as R
+use Rattle.arithmetic.proofs.Ranges as R
 use Rattle.edges.proofs.TapNumbers as N
 use Rattle.edges.proofs.taps.s2u16.Statement.{statement}
 use Rattle.edges.proofs.taps.s2u16.Tie as tie

@@ -7,7 +7,7 @@ use lib.ListN.{length, getD, length-set}
 use lib.IntN.{pos}
 use Rattle.edges.proofs.TapNumbers as N
 use denote.Ref.{now}
-use Rattle.kernels.specs.Numbers.{s2u}
+use Rattle.arithmetic.specs.Numbers.{s2u}
 use Rattle.edges.specs.Private.Runs.{storeRow, SignedRow}
 use Rattle.edges.proofs.RowStores.{store-none, store-turn}
 use Rattle.edges.proofs.taps.scatter8.Statement.{statement}

@@ -1,8 +1,8 @@
 -- `edges::taps::u2s16` meets its contract.
 -- Assumes nothing.
 use mir.Syntax.{w16}
-use Rattle.kernels.proofs.Ranges as R
-use Rattle.kernels.specs.Numbers.{u2s}
+use Rattle.arithmetic.proofs.Ranges as R
+use Rattle.arithmetic.specs.Numbers.{u2s}
 use borrow.Author.Needs.{needs}
 use Rattle.edges.proofs.taps.u2s16.Statement.{statement}
 use Rattle.edges.proofs.taps.u2s16.Tie as tie

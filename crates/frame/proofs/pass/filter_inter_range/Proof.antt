@@ -30,38 +30,47 @@ loop-holds c =
     let st = c .before .before .before .before .before .before .before .before in
     ((le-refl (st .args .from), st .pre .range .ordered), no-turn interPass _ _ _ (st .args .from) _, (refl, refl, refl))
 
-shared-slice-read-mode : tie.Need-shared-slice-read-mode Inv-loop μ-loop
-shared-slice-read-mode c = omega (arith, c .before .before .before .before .before .before .before .before .before .before .before .pre .modes)
+shared-slice-read-mode-of : tie.Need-shared-slice-read-mode-of Inv-loop μ-loop
+shared-slice-read-mode-of c = omega (arith, c .before .before .before .before .before .before .before .before .before .before .before .pre .modes)
+
+mode-of-requires : tie.Need-mode-of-requires Inv-loop μ-loop
+mode-of-requires c κs = search needs
+
+shared-slice-read-reference-of : tie.Need-shared-slice-read-reference-of Inv-loop μ-loop
+shared-slice-read-reference-of c = omega (arith, c .before .before .before .before .before .before .before .before .before .before .before .before .before .pre .references)
+
+reference-of-requires : tie.Need-reference-of-requires Inv-loop μ-loop
+reference-of-requires c κs = search needs
+
+shared-slice-read-inter-mode-of : tie.Need-shared-slice-read-inter-mode-of Inv-loop μ-loop
+shared-slice-read-inter-mode-of c = omega (arith, c .before .before .before .before .before .before .before .before .before .before .before .before .before .before .before .pre .interModes)
+
+inter-mode-of-requires : tie.Need-inter-mode-of-requires Inv-loop μ-loop
+inter-mode-of-requires c κs = search needs
 
 shared-slice-read-mb-level : tie.Need-shared-slice-read-mb-level Inv-loop μ-loop
-shared-slice-read-mb-level c = omega (arith, c .before .before .before .before .before .before .before .before .before .before .before .before .pre .segments)
-
-shared-slice-read-mb-level-2 : tie.Need-shared-slice-read-mb-level-2 Inv-loop μ-loop
-shared-slice-read-mb-level-2 c = omega (arith, c .before .before .before .before .before .before .before .before .before .before .before .before .before .pre .references)
-
-shared-slice-read-mb-level-3 : tie.Need-shared-slice-read-mb-level-3 Inv-loop μ-loop
-shared-slice-read-mb-level-3 c = omega (arith, c .before .before .before .before .before .before .before .before .before .before .before .before .before .before .pre .interModes)
+shared-slice-read-mb-level c = omega (arith, c .before .before .before .before .before .before .before .before .before .before .before .before .before .before .before .before .before .pre .segments)
 
 mb-level-requires : tie.Need-mb-level-requires Inv-loop μ-loop
 mb-level-requires c κs = search needs
 
 shared-slice-read-inner-edges : tie.Need-shared-slice-read-inner-edges Inv-loop μ-loop
-shared-slice-read-inner-edges c = omega (arith, c .before .before .before .before .before .before .before .before .before .before .before .before .before .before .before .before .pre .flags)
+shared-slice-read-inner-edges c = omega (arith, c .before .before .before .before .before .before .before .before .before .before .before .before .before .before .before .before .before .before .before .pre .flags)
 
 inner-edges-requires : tie.Need-inner-edges-requires Inv-loop μ-loop
 inner-edges-requires c κs = search needs
 
 filter-macroblock-requires : tie.Need-filter-macroblock-requires Inv-loop μ-loop
 filter-macroblock-requires c κs =
-    let l = c .before .before .before .before .before .before .before .before .before .before .before in
+    let l = c .before .before .before .before .before .before .before .before .before .before .before .before .before .before in
     let st = l .before .before .before .before .before .before .before .before .before in
     let i = l .loop .inv in (
-      sound-kept _ _ _ _ _ _ _ (i .2 .0) (i .2 .1) (i .2 .2) (st .pre .range .sound (omega (arith, i .0, c .before .before .before .before .before .before .before .before .before .before .loop-test .taken))),
-      omega (arith, st .pre .range .within, c .before .before .before .before .before .before .before .before .before .before .loop-test .taken),
+      sound-kept _ _ _ _ _ _ _ (i .2 .0) (i .2 .1) (i .2 .2) (st .pre .range .sound (omega (arith, i .0, c .before .before .before .before .before .before .before .before .before .before .before .before .before .loop-test .taken))),
+      omega (arith, st .pre .range .within, c .before .before .before .before .before .before .before .before .before .before .before .before .before .loop-test .taken),
     )
 
 add-m : tie.Need-add-m Inv-loop μ-loop
-add-m c = omega arith
+add-m c = omega (arith, c .before .before .before .before .before .before .before .before .before .before .before .before .before .before .before .before .before .before .before .before .loop-test .taken, c .before .before .before .before .before .before .before .before .before .before .before .before .before .before .before .before .before .before .before .before .before .before .before .before .before .before .before .before .before .before .fits .to)
 
 loop-less : tie.Need-loop-less Inv-loop μ-loop
 loop-less c = omega arith
@@ -70,10 +79,10 @@ loop-again : tie.Need-loop-again Inv-loop μ-loop
 loop-again c =
     let f = c .before .before .before .before .before .before in
     let k = f .before .before .before .before in
-    let l = f .before .before .before .before .before .before .before .before .before .before .before .before in
+    let l = f .before .before .before .before .before .before .before .before .before .before .before .before .before .before .before in
     let i = l .loop .inv in (
-      (omega (arith, i .0), omega (arith, f .before .before .before .before .before .before .before .before .before .before .before .loop-test .taken)),
-      one-turn interPass _ _ _ _ _ (l .loop .m) _ _ (planesOf (f .filter-macroblock .last .0) (f .filter-macroblock .last .1 .0) (f .filter-macroblock .last .1 .1 .0)) (i .0 .0) (inter-plan _ (l .loop .m) _ _ (interLists _ _ _ _ _) (k .before .before .mb-level .ensures) (k .inner-edges .ensures)) (i .1) (f .filter-macroblock .ensures),
+      (omega (arith, i .0), omega (arith, f .before .before .before .before .before .before .before .before .before .before .before .before .before .before .loop-test .taken)),
+      one-turn interPass _ _ _ _ _ (l .loop .m) _ _ (planesOf (f .filter-macroblock .last .0) (f .filter-macroblock .last .1 .0) (f .filter-macroblock .last .1 .1 .0)) (i .0 .0) (inter-plan _ (l .loop .m) _ _ _ _ _ (interLists _ _ _ _ _) (k .before .before .before .before .before .before .before .before .mode-of .ensures) (k .before .before .before .before .before .before .reference-of .ensures) (k .before .before .before .before .inter-mode-of .ensures) (k .before .before .mb-level .ensures) (k .inner-edges .ensures)) (i .1) (f .filter-macroblock .ensures),
       (f .filter-macroblock .kept .0 ∙ i .2 .0, f .filter-macroblock .kept .1 .0 ∙ i .2 .1, f .filter-macroblock .kept .1 .1 .0 ∙ i .2 .2),
     )
 
@@ -99,10 +108,13 @@ filter-inter-range-spec =
     Inv-loop
     μ-loop
     loop-holds
-    shared-slice-read-mode
+    shared-slice-read-mode-of
+    mode-of-requires
+    shared-slice-read-reference-of
+    reference-of-requires
+    shared-slice-read-inter-mode-of
+    inter-mode-of-requires
     shared-slice-read-mb-level
-    shared-slice-read-mb-level-2
-    shared-slice-read-mb-level-3
     mb-level-requires
     shared-slice-read-inner-edges
     inner-edges-requires

@@ -30,28 +30,31 @@ loop-holds c =
     let st = c .before .before .before .before .before .before in
     ((le-refl (st .args .from), st .pre .range .ordered), no-turn keyPass _ _ _ (st .args .from) _, (refl, refl, refl))
 
-shared-slice-read-mode : tie.Need-shared-slice-read-mode Inv-loop μ-loop
-shared-slice-read-mode c = omega (arith, c .before .before .before .before .before .before .before .before .before .pre .modes)
+shared-slice-read-mode-of : tie.Need-shared-slice-read-mode-of Inv-loop μ-loop
+shared-slice-read-mode-of c = omega (arith, c .before .before .before .before .before .before .before .before .before .pre .modes)
+
+mode-of-requires : tie.Need-mode-of-requires Inv-loop μ-loop
+mode-of-requires c κs = search needs
 
 shared-slice-read-key-mb-level : tie.Need-shared-slice-read-key-mb-level Inv-loop μ-loop
-shared-slice-read-key-mb-level c = omega (arith, c .before .before .before .before .before .before .before .before .before .before .pre .segments)
+shared-slice-read-key-mb-level c = omega (arith, c .before .before .before .before .before .before .before .before .before .before .before .pre .segments)
 
 key-mb-level-requires : tie.Need-key-mb-level-requires Inv-loop μ-loop
 key-mb-level-requires c κs = search needs
 
 shared-slice-read-inner-edges : tie.Need-shared-slice-read-inner-edges Inv-loop μ-loop
-shared-slice-read-inner-edges c = omega (arith, c .before .before .before .before .before .before .before .before .before .before .before .before .pre .flags)
+shared-slice-read-inner-edges c = omega (arith, c .before .before .before .before .before .before .before .before .before .before .before .before .before .pre .flags)
 
 inner-edges-requires : tie.Need-inner-edges-requires Inv-loop μ-loop
 inner-edges-requires c κs = search needs
 
 filter-macroblock-requires : tie.Need-filter-macroblock-requires Inv-loop μ-loop
 filter-macroblock-requires c κs =
-    let l = c .before .before .before .before .before .before .before .before .before in
+    let l = c .before .before .before .before .before .before .before .before .before .before in
     let st = l .before .before .before .before .before .before .before in
     let i = l .loop .inv in (
-      sound-kept _ _ _ _ _ _ _ (i .2 .0) (i .2 .1) (i .2 .2) (st .pre .range .sound (omega (arith, i .0, c .before .before .before .before .before .before .before .before .loop-test .taken))),
-      omega (arith, st .pre .range .within, c .before .before .before .before .before .before .before .before .loop-test .taken),
+      sound-kept _ _ _ _ _ _ _ (i .2 .0) (i .2 .1) (i .2 .2) (st .pre .range .sound (omega (arith, i .0, c .before .before .before .before .before .before .before .before .before .loop-test .taken))),
+      omega (arith, st .pre .range .within, c .before .before .before .before .before .before .before .before .before .loop-test .taken),
     )
 
 add-m : tie.Need-add-m Inv-loop μ-loop
@@ -64,10 +67,10 @@ loop-again : tie.Need-loop-again Inv-loop μ-loop
 loop-again c =
     let f = c .before .before .before .before .before .before in
     let k = f .before .before .before .before in
-    let l = f .before .before .before .before .before .before .before .before .before .before in
+    let l = f .before .before .before .before .before .before .before .before .before .before .before in
     let i = l .loop .inv in (
-      (omega (arith, i .0), omega (arith, f .before .before .before .before .before .before .before .before .before .loop-test .taken)),
-      one-turn keyPass _ _ _ _ _ (l .loop .m) _ _ (planesOf (f .filter-macroblock .last .0) (f .filter-macroblock .last .1 .0) (f .filter-macroblock .last .1 .1 .0)) (i .0 .0) (key-plan _ (l .loop .m) _ _ (keyLists _ _ _) (k .before .before .key-mb-level .ensures) (k .inner-edges .ensures)) (i .1) (f .filter-macroblock .ensures),
+      (omega (arith, i .0), omega (arith, f .before .before .before .before .before .before .before .before .before .before .loop-test .taken)),
+      one-turn keyPass _ _ _ _ _ (l .loop .m) _ _ (planesOf (f .filter-macroblock .last .0) (f .filter-macroblock .last .1 .0) (f .filter-macroblock .last .1 .1 .0)) (i .0 .0) (key-plan _ (l .loop .m) _ _ _ (keyLists _ _ _) (k .before .before .before .before .mode-of .ensures) (k .before .before .key-mb-level .ensures) (k .inner-edges .ensures)) (i .1) (f .filter-macroblock .ensures),
       (f .filter-macroblock .kept .0 ∙ i .2 .0, f .filter-macroblock .kept .1 .0 ∙ i .2 .1, f .filter-macroblock .kept .1 .1 .0 ∙ i .2 .2),
     )
 
@@ -93,7 +96,8 @@ filter-key-range-spec =
     Inv-loop
     μ-loop
     loop-holds
-    shared-slice-read-mode
+    shared-slice-read-mode-of
+    mode-of-requires
     shared-slice-read-key-mb-level
     key-mb-level-requires
     shared-slice-read-inner-edges

@@ -4,9 +4,6 @@ use Rattle.frame.proofs.RecordLaws.{key-record-level}
 use Rattle.frame.proofs.record_step.key_record_level.Statement.{statement}
 use Rattle.frame.proofs.record_step.key_record_level.Tie as tie
 
-mode-byte-requires : tie.Need-mode-byte-requires
-mode-byte-requires c κs = search needs
-
 segment-byte-requires : tie.Need-segment-byte-requires
 segment-byte-requires c κs = search needs
 
@@ -16,9 +13,8 @@ key-mb-level-requires c κs = search needs
 returns : tie.Need-returns
 returns c =
     let s = c .before in
-    let m = s .before in
-    key-record-level (m .before .args .config) (m .before .args .mb) _ _ _ (m .mode-byte .ensures) (s .segment-byte .ensures) (c .key-mb-level .ensures)
+    key-record-level (s .before .args .config) (s .before .args .mb) _ _ (s .segment-byte .ensures) (c .key-mb-level .ensures)
 
 pub key-record-level-spec : {M : Type 1} → statement M
 key-record-level-spec =
-    tie.close (tie.spec mode-byte-requires segment-byte-requires key-mb-level-requires returns)
+    tie.close (tie.spec segment-byte-requires key-mb-level-requires returns)

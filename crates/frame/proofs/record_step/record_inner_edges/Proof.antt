@@ -4,11 +4,11 @@ use Rattle.frame.proofs.RecordLaws.{record-inside}
 use Rattle.frame.proofs.record_step.record_inner_edges.Statement.{statement}
 use Rattle.frame.proofs.record_step.record_inner_edges.Tie as tie
 
-mode-byte-requires : tie.Need-mode-byte-requires
-mode-byte-requires c κs = search needs
+is-b-requires : tie.Need-is-b-requires
+is-b-requires c κs = search needs
 
 returns : tie.Need-returns
-returns c = record-inside (c .before .before .args .mb) _ (c .before .mode-byte .ensures)
+returns c = record-inside (c .before .before .args .mb) _ (c .before .is-b .ensures)
 
 pub record-inner-edges-spec : {M : Type 1} → statement M
-record-inner-edges-spec = tie.close (tie.spec mode-byte-requires returns)
+record-inner-edges-spec = tie.close (tie.spec is-b-requires returns)

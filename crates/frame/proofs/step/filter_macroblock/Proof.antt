@@ -6,11 +6,11 @@ use mathlib.Core.Bool.{Bool, cond}
 use lib.ListN.{length}
 use lib.Dec.{eqb}
 use denote.Ref.{now}
-use Rattle.kernels.specs.declared.limits.LoopFilterParams.{LoopFilterParams}
+use Rattle.arithmetic.specs.declared.limits.LoopFilterParams.{LoopFilterParams}
 use Rattle.planes.specs.Layout.{gridOf, planesOf}
 use Rattle.planes.specs.Macroblock.{leave, filterMacroblock}
 use borrow.Author.Tests.{eq-eqb, ne-eqb}
-use Rattle.kernels.specs.Limits.{derive}
+use Rattle.arithmetic.specs.Limits.{derive}
 use Rattle.calls.specs.Pass.{planWith, planAt}
 use Rattle.planes.proofs.StepParts.{macroblock-parts, leave-at}
 use Rattle.planes.specs.Edges.{places}

@@ -4,9 +4,11 @@ use borrow.Author.Needs.{needs}
 use mathlib.Core.Path.{sym, ap, _∙_}
 use borrow.Author.Tests.{leb-true}
 use mir.Syntax.{w32, w64}
-use Rattle.kernels.specs.Answers.{adjustOutcome, gives}
+use Rattle.arithmetic.specs.Outcome.{gives}
+use Rattle.kernels.specs.Answers.{adjustOutcome}
 use Rattle.kernels.specs.Segment.{half, taps, fitsAt, windowed, adjustAnswer}
-use Rattle.kernels.proofs.Ranges as R
+use Rattle.arithmetic.proofs.Ranges as R
+use Rattle.kernels.proofs.SignedBytes.{adjustment-in}
 use Rattle.kernels.proofs.Windows.{taken, left}
 use Rattle.kernels.proofs.segments.common_adjust.Statement.{statement}
 use Rattle.kernels.proofs.segments.common_adjust.Tie as tie
@@ -18,7 +20,7 @@ common-adjust-at-requires : tie.Need-common-adjust-at-requires
 common-adjust-at-requires c κs = leb-true _ _ (sym (c .before .before .has-window .ensures) ∙ c .before .if1 .taken)
 
 cast-t10 : tie.Need-cast-t10
-cast-t10 c = let j = c .before .before in R.cast? (R.got {w = w64} (j .common-adjust-at .ok) (j .common-adjust-at .ensures .0) (R.adjustment-in _ _ _ _ _)) tt
+cast-t10 c = let j = c .before .before in R.cast? (R.got {w = w64} (j .common-adjust-at .ok) (j .common-adjust-at .ensures .0) (adjustment-in _ _ _ _ _)) tt
 
 same-length : tie.Need-same-length
 same-length c = search needs
@@ -29,7 +31,7 @@ returns c =
     let j = c .before .before in
     let t = j .before .before in
     let h = t .before .has-window .ensures in
-    let a = R.cast {w′ = w32} (R.got {w = w64} (j .common-adjust-at .ok) (j .common-adjust-at .ensures .0) (R.adjustment-in _ _ _ _ _)) tt in
+    let a = R.cast {w′ = w32} (R.got {w = w64} (j .common-adjust-at .ok) (j .common-adjust-at .ensures .0) (adjustment-in _ _ _ _ _)) tt in
     (ap gives (a .val) ∙ sym (taken _ _ h (t .if1 .taken)), j .common-adjust-at .ensures .1 ∙ sym (taken _ _ h (t .if1 .taken)))
 
 returns-2 : tie.Need-returns-2

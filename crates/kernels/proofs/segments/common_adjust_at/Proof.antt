@@ -4,7 +4,7 @@ use borrow.Author.Needs.{needs}
 use mathlib.Core.Path.{sym, _∙_}
 use mir.Syntax.{w64}
 use denote.Ref.{now}
-use Rattle.kernels.proofs.Ranges as R
+use Rattle.arithmetic.proofs.Ranges as R
 use Rattle.kernels.proofs.Windows.{common-window}
 use Rattle.kernels.proofs.segments.common_adjust_at.Statement.{statement}
 use Rattle.kernels.proofs.segments.common_adjust_at.Tie as tie

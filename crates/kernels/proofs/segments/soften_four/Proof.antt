@@ -6,14 +6,16 @@ use mathlib.Core.Bool.{false}
 use Prim.Native.Nat.{_+_}
 use lib.ListN.{set}
 use lib.IntN.{ℤ}
-use mir.Syntax.{w64}
-use mir.Val.{ofZ}
+use mir.Syntax.{w16, w64}
+use mir.Val.{ofZ, toZ}
 use denote.Ref.{now}
-use Rattle.kernels.specs.Numbers.{u2s}
+use Rattle.arithmetic.specs.Numbers.{u2s}
 use Rattle.kernels.specs.Kernels.{filterValue, adjustment, adjustedP0, adjustedQ0, outerStep}
-use Rattle.kernels.specs.Private.Windows.{atMost123, softenedFour}
-use Rattle.kernels.proofs.Ranges as R
-use Rattle.kernels.proofs.Cuts.{raised, lowered, gain-is, loss-is, half-is, most-in}
+use Rattle.kernels.specs.Private.Windows.{softenedFour}
+use Rattle.arithmetic.specs.Numbers.{atMost123}
+use Rattle.arithmetic.proofs.Ranges as R
+use Rattle.kernels.proofs.SignedBytes.{filter-in}
+use Rattle.kernels.proofs.Cuts.{raised, lowered, gain-is, loss-is, half-is}
 use Rattle.kernels.proofs.segments.soften_four.Statement.{statement}
 use Rattle.kernels.proofs.segments.soften_four.Tie as tie
 
@@ -24,17 +26,23 @@ module _ (c : tie.After-at-most-123) where
   abbrev a : ℤ
   a = filterValue false (u2s (s .args .p1)) (u2s (s .args .p0)) (u2s (s .args .q0)) (u2s (s .args .q1))
 
-  value : R.Is w64 (ofZ w64 (c .before .filter-value .result)) a 128
-  value = R.got (c .before .filter-value .ok) (c .before .filter-value .ensures) (R.filter-in _ _ _ _ _)
+  value : R.Is w16 (ofZ w16 (c .before .filter-value .result)) a 128
+  value = R.got (c .before .filter-value .ok) (c .before .filter-value .ensures) (filter-in _ _ _ _ _)
 
-  most : R.Is w64 (ofZ w64 (c .at-most-123 .result)) (atMost123 a) 128
-  most = R.got (c .at-most-123 .ok) (c .at-most-123 .ensures ∙ ap atMost123 (value .val)) (most-in a (value .inr))
+  less : R.Is w16 (ofZ w16 (c .at-most-123 .result)) (atMost123 a) 128
+  less = R.got (c .at-most-123 .ok) (c .at-most-123 .ensures ∙ ap atMost123 (value .val)) (R.most-in a (value .inr))
+
+  most : R.Is w64 (ofZ w64 (toZ w16 (ofZ w16 (c .at-most-123 .result)))) (atMost123 a) 128
+  most = R.cast less tt
 
 filter-value-requires : tie.Need-filter-value-requires
 filter-value-requires c κs = search needs
 
 at-most-123-requires : tie.Need-at-most-123-requires
 at-most-123-requires c κs = search needs
+
+cast-a : tie.Need-cast-a
+cast-a c = R.cast? (less c) tt
 
 add-half : tie.Need-add-half
 add-half c = R.add? (most c) (R.lit w64 12 tt) tt
@@ -96,6 +104,7 @@ soften-four-spec =
     (tie.spec
     filter-value-requires
     at-most-123-requires
+    cast-a
     add-half
     cast-cut4
     add-cut4

@@ -5,12 +5,13 @@ use mathlib.Core.Path.{_∙_}
 use Prim.Native.Nat.{_+_}
 use lib.ListN.{set}
 use lib.IntN.{ℤ}
-use mir.Syntax.{w64}
-use mir.Val.{ofZ}
+use mir.Syntax.{w16, w64}
+use mir.Val.{ofZ, toZ}
 use denote.Ref.{now}
 use Rattle.kernels.specs.Kernels.{wideValue}
 use Rattle.kernels.specs.Private.Windows.{widenedSix}
-use Rattle.kernels.proofs.Ranges as R
+use Rattle.arithmetic.proofs.Ranges as R
+use Rattle.kernels.proofs.SignedBytes.{filter-in}
 use Rattle.kernels.proofs.Cuts.{raised, lowered, part-is}
 use Rattle.kernels.proofs.segments.widen_six.Statement.{statement}
 use Rattle.kernels.proofs.segments.widen_six.Tie as tie
@@ -22,12 +23,18 @@ module _ (c : tie.After-filter-value) where
   abbrev w : ℤ
   w = wideValue (s .args .p1) (s .args .p0) (s .args .q0) (s .args .q1)
 
-  value : R.Is w64 (ofZ w64 (c .filter-value .result)) w 128
+  narrow : R.Is w16 (ofZ w16 (c .filter-value .result)) w 128
   unfolding wideValue
-  value = R.got (c .filter-value .ok) (c .filter-value .ensures) (R.filter-in _ _ _ _ _)
+  narrow = R.got (c .filter-value .ok) (c .filter-value .ensures) (filter-in _ _ _ _ _)
+
+  value : R.Is w64 (ofZ w64 (toZ w16 (ofZ w16 (c .filter-value .result)))) w 128
+  value = R.cast narrow tt
 
 filter-value-requires : tie.Need-filter-value-requires
 filter-value-requires c κs = search needs
+
+cast-w : tie.Need-cast-w
+cast-w c = R.cast? (narrow c) tt
 
 mul-a0 : tie.Need-mul-a0
 mul-a0 c = R.mul? 27 (value c) tt tt
@@ -110,6 +117,7 @@ widen-six-spec =
     tie.close
     (tie.spec
     filter-value-requires
+    cast-w
     mul-a0
     add-a0
     mul-a1

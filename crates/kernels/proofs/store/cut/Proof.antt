@@ -5,7 +5,7 @@ use mathlib.Core.Bool.{true, false}
 use lib.IntN.{pos}
 use lib.Signed.{ltZ}
 use mir.Syntax.{w64}
-use Rattle.kernels.proofs.Ranges as R
+use Rattle.arithmetic.proofs.Ranges as R
 use Rattle.kernels.proofs.Cuts.{Plain, plain, byte?, byte, cut-low, cut-high}
 use Rattle.kernels.proofs.store.cut.Statement.{statement}
 use Rattle.kernels.proofs.store.cut.Tie as tie

@@ -7,7 +7,7 @@ use lib.ListN.{set}
 use mir.Syntax.{w64}
 use denote.Ref.{now}
 use Rattle.kernels.specs.Private.Windows.{cut}
-use Rattle.kernels.proofs.Ranges as R
+use Rattle.arithmetic.proofs.Ranges as R
 use Rattle.kernels.proofs.Cuts.{Plain, told, join, byte?, byte}
 use Rattle.kernels.proofs.store.cut2.Statement.{statement}
 use Rattle.kernels.proofs.store.cut2.Tie as tie

@@ -6,7 +6,7 @@ use lib.IntN.{ℤ, pos}
 use lib.Signed.{leZ, ltZ}
 use mir.Syntax.{w64}
 use Rattle.kernels.specs.Private.Windows.{inByte}
-use Rattle.kernels.proofs.Ranges as R
+use Rattle.arithmetic.proofs.Ranges as R
 use Rattle.kernels.proofs.store.in_byte.Statement.{statement}
 use Rattle.kernels.proofs.store.in_byte.Tie as tie
 

@@ -2,7 +2,7 @@
 use mathlib.Core.Path.{sym, _∙_}
 use mir.Syntax.{w32}
 use borrow.Author.Needs.{needs}
-use Rattle.kernels.proofs.Ranges as R
+use Rattle.arithmetic.proofs.Ranges as R
 use Rattle.levels.proofs.Levels as L
 use Rattle.levels.proofs.level.base_level.Statement.{statement}
 use Rattle.levels.proofs.level.base_level.Tie as tie

@@ -7,7 +7,7 @@ use lib.IntN.{ℤ, pos, natAbs}
 use lib.Signed.{ltZ, pos-natAbs}
 use borrow.Author.Needs.{needs}
 use mir.Syntax.{w8, w32}
-use Rattle.kernels.proofs.Ranges as R
+use Rattle.arithmetic.proofs.Ranges as R
 use Rattle.levels.proofs.Levels as L
 use Rattle.levels.proofs.level.clamp_level.Statement.{statement}
 use Rattle.levels.proofs.level.clamp_level.Tie as tie
@@ -21,6 +21,9 @@ low c = R.tested (R.held {w = w32} (c .before .before .fits .v)) (pos 0) false (
 
 cast-if1 : tie.Need-cast-if1
 cast-if1 c = search needs
+
+cast-if2 : tie.Need-cast-if2
+cast-if2 c = search needs
 
 cast-result : tie.Need-cast-result
 cast-result c =
@@ -43,4 +46,4 @@ returns-3 c =
     ∙ sym (L.clamp-mid v (high (c .before)) (low c))
 
 pub clamp-level-spec : {M : Type 1} → statement M
-clamp-level-spec = tie.close (tie.spec cast-if1 cast-result returns returns-2 returns-3)
+clamp-level-spec = tie.close (tie.spec cast-if1 cast-if2 cast-result returns returns-2 returns-3)

@@ -5,7 +5,7 @@ use mir.Syntax.{w16, w32}
 use mir.Val.{ofZ}
 use borrow.Author.Needs.{needs}
 use Rattle.levels.specs.Levels.{segmentNumber}
-use Rattle.kernels.proofs.Ranges as R
+use Rattle.arithmetic.proofs.Ranges as R
 use Rattle.levels.proofs.Levels as L
 use Rattle.levels.proofs.level.level_in_segment.Statement.{statement}
 use Rattle.levels.proofs.level.level_in_segment.Tie as tie

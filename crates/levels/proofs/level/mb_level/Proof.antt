@@ -2,8 +2,8 @@
 use mathlib.Core.Path.{ap, _∙_}
 use lib.IntN.{natAbs}
 use borrow.Author.Needs.{needs}
-use Rattle.levels.specs.Levels.{clampLevel, interLevel, levelOf}
-use Rattle.kernels.proofs.Ranges as R
+use Rattle.levels.specs.Levels.{clampLevel, interLevel}
+use Rattle.arithmetic.proofs.Ranges as R
 use Rattle.levels.proofs.level.mb_level.Statement.{statement}
 use Rattle.levels.proofs.level.mb_level.Tie as tie
 
@@ -14,7 +14,7 @@ clamp-level-requires : tie.Need-clamp-level-requires
 clamp-level-requires c κs = search needs
 
 returns : tie.Need-returns
-unfolding interLevel levelOf
+unfolding interLevel
 returns c = ap natAbs (c .clamp-level .ensures ∙ ap clampLevel (R.gave (c .before .adjusted-level .ok) (c .before .adjusted-level .ensures) .val))
 
 pub mb-level-spec : {M : Type 1} → statement M

@@ -2,7 +2,7 @@
 use mathlib.Core.Path.{ap, _∙_}
 use borrow.Author.Needs.{needs}
 use Rattle.levels.specs.Levels.{clampLevel, segmentLevel}
-use Rattle.kernels.proofs.Ranges as R
+use Rattle.arithmetic.proofs.Ranges as R
 use Rattle.levels.proofs.level.segment_level.Statement.{statement}
 use Rattle.levels.proofs.level.segment_level.Tie as tie
 

@@ -4,7 +4,7 @@ use borrow.Author.Needs.{needs}
 use mathlib.Core.Path.{refl, sym, ap, _∙_}
 use Prim.Native.Nat.{ℕ}
 use denote.Ref.{now}
-use Rattle.kernels.specs.Answers.{Outcome, numberOf}
+use Rattle.arithmetic.specs.Outcome.{Outcome, numberOf}
 use Rattle.levels.specs.Answers.{levelOutcome}
 use Rattle.levels.specs.Levels.{keyAnswer}
 use Rattle.levels.specs.declared.config.FrameFilterConfig.{FrameFilterConfig}

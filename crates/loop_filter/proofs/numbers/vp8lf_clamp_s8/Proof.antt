@@ -3,8 +3,8 @@
 use borrow.Author.Needs.{needs}
 use mathlib.Core.Path.{ap, _∙_}
 use mir.Syntax.{w32}
-use Rattle.kernels.specs.Numbers.{clamp}
-use Rattle.kernels.proofs.Ranges as R
+use Rattle.arithmetic.specs.Numbers.{clamp}
+use Rattle.arithmetic.proofs.Ranges as R
 use Rattle.loop_filter.proofs.numbers.vp8lf_clamp_s8.Statement.{statement}
 use Rattle.loop_filter.proofs.numbers.vp8lf_clamp_s8.Tie as tie
 

@@ -3,8 +3,8 @@
 use borrow.Author.Needs.{needs}
 use mathlib.Core.Path.{ap, _∙_}
 use mir.Syntax.{w32}
-use Rattle.kernels.specs.Numbers.{s2u}
-use Rattle.kernels.proofs.Ranges as R
+use Rattle.arithmetic.specs.Numbers.{s2u}
+use Rattle.arithmetic.proofs.Ranges as R
 use Rattle.loop_filter.proofs.numbers.vp8lf_s2u.Statement.{statement}
 use Rattle.loop_filter.proofs.numbers.vp8lf_s2u.Tie as tie
 

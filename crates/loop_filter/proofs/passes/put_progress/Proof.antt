@@ -1,6 +1,6 @@
 -- `loop_filter::passes::put_progress` meets its contract. Assumes nothing.
 use mathlib.Core.Path.{refl, sym, ap}
-use Rattle.kernels.specs.Answers.{numberOf}
+use Rattle.arithmetic.specs.Outcome.{numberOf}
 use Rattle.calls.specs.Answers.{passOutcome}
 use Rattle.loop_filter.specs.Returned.{outOf}
 use Rattle.loop_filter.proofs.Returns.{progress}

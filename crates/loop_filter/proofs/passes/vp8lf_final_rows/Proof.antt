@@ -1,6 +1,6 @@
 -- `loop_filter::passes::vp8lf_final_rows` meets its contract. Assumes nothing.
 use mathlib.Core.Path.{refl, sym, ap, _∙_}
-use Rattle.kernels.specs.Answers.{numberOf}
+use Rattle.arithmetic.specs.Outcome.{numberOf}
 use Rattle.calls.specs.FinalRows.{finalRowsOutcome}
 use Rattle.loop_filter.specs.Returned.{outOf}
 use Rattle.loop_filter.proofs.Returns.{rows}

@@ -1,7 +1,8 @@
 -- `loop_filter::segments::number` meets its contract.
 -- Assumes nothing.
 use borrow.Author.Needs.{needs}
-use Rattle.kernels.specs.Answers.{numberOf, kernelOutcome}
+use Rattle.arithmetic.specs.Outcome.{numberOf}
+use Rattle.kernels.specs.Answers.{kernelOutcome}
 use Rattle.loop_filter.proofs.segments.number.Statement.{statement}
 use Rattle.loop_filter.proofs.segments.number.Tie as tie
 

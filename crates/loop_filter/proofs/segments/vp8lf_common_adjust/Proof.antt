@@ -5,8 +5,9 @@ use mathlib.Core.Path.{refl, sym, ap, _∙_}
 use lib.IntN.{ℤ}
 use mir.Syntax.{w32}
 use denote.Ref.{now}
-use Rattle.kernels.specs.Answers.{Outcome, numberOf, adjustOutcome}
-use Rattle.kernels.proofs.Ranges as R
+use Rattle.arithmetic.specs.Outcome.{Outcome, numberOf}
+use Rattle.kernels.specs.Answers.{adjustOutcome}
+use Rattle.arithmetic.proofs.Ranges as R
 use Rattle.loop_filter.specs.Returned.{outOf}
 use Rattle.loop_filter.proofs.Returns.{returned}
 use Rattle.loop_filter.proofs.segments.vp8lf_common_adjust.Statement.{statement}

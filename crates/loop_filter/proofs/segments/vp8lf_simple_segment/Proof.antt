@@ -2,7 +2,7 @@
 -- Assumes nothing.
 use borrow.Author.Needs.{needs}
 use mathlib.Core.Path.{ap, _∙_}
-use Rattle.kernels.specs.Answers.{numberOf}
+use Rattle.arithmetic.specs.Outcome.{numberOf}
 use Rattle.loop_filter.proofs.segments.vp8lf_simple_segment.Statement.{statement}
 use Rattle.loop_filter.proofs.segments.vp8lf_simple_segment.Tie as tie
 

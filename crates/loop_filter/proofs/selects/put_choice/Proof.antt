@@ -1,7 +1,7 @@
 -- `loop_filter::selects::put_choice` meets its contract. Assumes nothing.
 use mathlib.Core.Path.{refl, sym, ap}
 use borrow.Author.Needs.{needs}
-use Rattle.kernels.specs.Answers.{numberOf}
+use Rattle.arithmetic.specs.Outcome.{numberOf}
 use Rattle.search.specs.Answers.{paramsOutcome}
 use Rattle.loop_filter.specs.Returned.{outOf}
 use Rattle.loop_filter.proofs.Returns.{choice}

@@ -1,7 +1,7 @@
 -- `loop_filter::selects::vp8lf_reconstruction_ssd` meets its contract. Assumes nothing.
 use mathlib.Core.Path.{refl, sym, ap, _∙_}
 use borrow.Author.Needs.{needs}
-use Rattle.kernels.specs.Answers.{numberOf}
+use Rattle.arithmetic.specs.Outcome.{numberOf}
 use Rattle.sums.specs.Answers.{sumOutcome}
 use Rattle.loop_filter.specs.Returned.{outOf}
 use Rattle.loop_filter.proofs.Returns.{returned}

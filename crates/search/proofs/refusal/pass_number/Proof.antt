@@ -1,7 +1,7 @@
 -- `search::refusal::pass_number` meets its contract. Assumes nothing.
 use mathlib.Core.Path.{sym, ap, _∙_}
 use borrow.Author.Needs.{needs}
-use Rattle.kernels.specs.Answers.{numberOf}
+use Rattle.arithmetic.specs.Outcome.{numberOf}
 use Rattle.calls.specs.Answers.{passOutcome}
 use Rattle.calls.specs.declared.answers.PassAnswer.{PassAnswer}
 use Rattle.search.proofs.refusal.pass_number.Statement.{statement}

@@ -1,7 +1,7 @@
 -- `search::refusal::sum_number` meets its contract. Assumes nothing.
 use mathlib.Core.Path.{sym, ap, _∙_}
 use borrow.Author.Needs.{needs}
-use Rattle.kernels.specs.Answers.{numberOf}
+use Rattle.arithmetic.specs.Outcome.{numberOf}
 use Rattle.sums.specs.Answers.{sumOutcome}
 use Rattle.sums.specs.declared.answers.SumAnswer.{SumAnswer}
 use Rattle.search.proofs.refusal.sum_number.Statement.{statement}

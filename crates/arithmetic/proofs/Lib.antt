@@ -1,0 +1,4 @@
+-- What several proofs share.
+pub mod Ranges
+-- Numbers, computed.
+pub mod Shifts

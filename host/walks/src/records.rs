@@ -1,0 +1,723 @@
+//! `RecordWalk` of `crates/frame`: a pass over a lent list of records. A judge says what is to be done; a loop copies
+//! each record out of the list and hands it to the step, with the planes lent again for each call.
+
+use crate::Proof;
+use crate::context::{CELL, Context, Held, locals, slice_typed};
+use crate::params::Kind::{Kept, Number, Plain, Records};
+use crate::params::{Kind, Param, lifetimes, params};
+use crate::text::{Values, alive, component, fill, joined, list, product, sub, subs, tuple};
+
+const TEMPLATE: &str = include_str!("../templates/records.txt");
+
+/// The fields of the planes, by their numbers.
+const PLANES: [&str; 3] = ["y", "u", "v"];
+/// How wide a line of steps is while another begins on it.
+const WIDTH: usize = 200;
+
+const ALIVE: Held = ("alive", 0);
+const OWNED: Held = ("owned", 0);
+const PRE: Held = ("pre", 0);
+/// What no turn touches of the list.
+const LIST: Held = ("list", 0);
+
+fn plane(number: usize) -> Held {
+    ("plane", number)
+}
+
+fn token(number: usize) -> Held {
+    ("token", number)
+}
+
+struct Walk {
+    params: Vec<Param>,
+    /// The local of the list, and the number of its lifetime.
+    list: usize,
+    list_lifetime: usize,
+    // the locals after the parameters
+    batch: usize,
+    index: usize,
+    lengths: usize,
+    test: usize,
+    unit: usize,
+    lent: usize,
+    offset: usize,
+    pointer: usize,
+    record: usize,
+    count: usize,
+}
+
+fn parenthesized(text: &str) -> String {
+    if text.contains(' ') { format!("({text})") } else { text.into() }
+}
+
+fn is_slice(kind: Kind) -> bool {
+    matches!(kind, Kept | Records)
+}
+
+impl Walk {
+    fn new() -> Walk {
+        let mut params = params(&[
+            ("y₀", Kept),
+            ("y₁", Kept),
+            ("y₂", Kept),
+            ("lay", Plain("PlaneLayout", "G")),
+            ("ms", Records),
+            ("cfg", Plain("FrameFilterConfig", "F")),
+            ("st", Number),
+            ("al", Number),
+        ]);
+        for param in &mut params {
+            (param.value, param.witness) = match param.kind {
+                Kept => (sub("s", param.lifetime), sub("room", param.lifetime)),
+                Records => (String::from("sl"), String::from("rooml")),
+                Plain(_, letter) => (format!("mach{letter} {}", param.name), format!("{}-is", param.name)),
+                _ => continue,
+            };
+        }
+        let records = params.iter().find(|param| param.kind == Records).expect("a list is passed");
+        let slices = params.iter().filter(|param| is_slice(param.kind)).count();
+        let batch = params.len() + 1;
+        let index = batch + 1;
+        let lengths = index + 1;
+        let test = lengths + slices;
+        let unit = test + 1;
+        let lent = unit + 1;
+        let offset = lent + 2 * PLANES.len();
+        let (pointer, record, count) = (offset + 1, offset + 2, offset + 3);
+        let (list, list_lifetime) = (records.place + 1, records.lifetime);
+        Walk { list, list_lifetime, batch, index, lengths, test, unit, lent, offset, pointer, record, count, params }
+    }
+
+    // ---- what is passed
+
+    fn slices(&self) -> impl Iterator<Item = &Param> {
+        self.params.iter().filter(|param| is_slice(param.kind))
+    }
+
+    /// The parameters that are not slices.
+    fn plain(&self) -> impl Iterator<Item = &Param> {
+        self.params.iter().filter(|param| !is_slice(param.kind))
+    }
+
+    /// Of what the judge is passed: all but the settings, of a slice its length.
+    fn judged(&self) -> Vec<(&Param, String)> {
+        let value =
+            |param: &Param| if is_slice(param.kind) { format!("length {}", param.name) } else { param.name.into() };
+        self.params.iter().filter(|param| param.name != "cfg").map(|param| (param, value(param))).collect()
+    }
+
+    /// The structs that the step is passed between the planes and the macroblock.
+    fn stepped(&self) -> Vec<&Param> {
+        self.params.iter().filter(|param| matches!(param.kind, Plain(..))).collect()
+    }
+
+    /// The local of a slice's length.
+    fn length(&self, slice: &Param) -> usize {
+        self.lengths + slice.lifetime
+    }
+
+    /// The locals that are passed to the judge, and to the step.
+    fn judge_locals(&self) -> Vec<usize> {
+        let local = |param: &Param| if is_slice(param.kind) { self.length(param) } else { param.place + 1 };
+        self.judged().into_iter().map(|(param, _)| local(param)).collect()
+    }
+
+    fn step_locals(&self) -> Vec<usize> {
+        let planes = (0..PLANES.len()).map(|number| self.lent + 2 * number + 1);
+        let structs = self.stepped().into_iter().map(|param| param.place + 1);
+        planes.chain(structs).chain([self.index, self.record]).collect()
+    }
+
+    // ---- the locals
+
+    fn types(&self) -> Vec<String> {
+        let of_param = |param: &Param| match param.kind {
+            Kept => format!("slice{}", param.lifetime),
+            Records => String::from("sliceL"),
+            Plain(_, letter) => format!("{letter}′.mir"),
+            _ => String::from("word"),
+        };
+        let words = (self.index..self.test).map(|_| "word");
+        let lent = PLANES.iter().flat_map(|_| ["ref9", "sliceTy ref9"]);
+        let after = ["P′.mir"].into_iter().chain(words).chain(["tyBool", "tyUnit"]).chain(lent);
+        let after = after.chain(["word", "tyPtr", "T′.mir"]).map(String::from);
+        let types: Vec<_> =
+            [String::from("N′.mir")].into_iter().chain(self.params.iter().map(of_param)).chain(after).collect();
+        assert!(types.len() == self.count, "each local has its type");
+        types
+    }
+
+    /// What is held of the locals, eight on a line: of those that have a value, this.
+    fn cells(&self, value: impl Fn(usize) -> Option<String>) -> String {
+        let types = self.types();
+        let cell = |(what, local): Held| {
+            let (ty, place) = (parenthesized(&types[local]), sub("l", local));
+            match value(local) {
+                Some(value) if what == CELL => format!("‵ (fat fullShare {ty} {place} 0 {value})"),
+                None if what == CELL => format!("‵ (froom {ty} {place} 0)"),
+                _ => format!("‵ (fdies {ty} {place})"),
+            }
+        };
+        let cells: Vec<_> = locals(self.count).into_iter().map(cell).collect();
+        joined(cells.chunks(8), "\n          ∷ ", |line| line.join(" ∷ "))
+    }
+
+    /// The value of a local once the judge has returned. That of the macroblock's number is given.
+    fn value(&self, local: usize, index: Option<&str>) -> Option<String> {
+        let length = self.slices().find(|slice| self.length(slice) == local);
+        match local {
+            _ if (1..=self.params.len()).contains(&local) => Some(parenthesized(&self.params[local - 1].value)),
+            _ if local == self.batch => Some(String::from("(machP r)")),
+            _ if local == self.index => index.map(|index| format!("(vint w64 {index})")),
+            _ => length.map(|slice| format!("(vint w64 (length {}))", slice.name)),
+        }
+    }
+
+    /// Everything that is held between two turns.
+    fn held(&self) -> Vec<Held> {
+        let planes = (0..PLANES.len()).map(plane);
+        planes.chain((0..self.lifetimes()).map(token)).chain([LIST]).collect()
+    }
+
+    fn lifetimes(&self) -> usize {
+        lifetimes(&self.params)
+    }
+
+    fn held_text(&self, steps: &str) -> String {
+        let planes = PLANES
+            .iter()
+            .enumerate()
+            .map(|(number, field)| format!("‵ ({})", owns(number, &format!("(after {steps} .{field})"))));
+        let tokens = self.tokens().into_iter().map(|(lifetime, share)| format!("‵ (flft {lifetime} {share})"));
+        joined(planes.chain(tokens).chain([String::from("‵ Shr")]), " ∷ ", |held| held)
+    }
+
+    fn tokens(&self) -> Vec<(String, String)> {
+        (0..self.lifetimes()).map(|number| (sub("κ", number), sub("q", number))).collect()
+    }
+
+    // ---- steps
+
+    /// From nothing to what the judge asks.
+    fn goes_plan(&self) -> String {
+        let mut at = Context::new([]);
+        at.say("qed W [] ∵");
+        at.nothing(OWNED);
+        for (param, value) in self.judged().into_iter().rev() {
+            at.say(made(param, &value));
+            at.line();
+        }
+        at.nothing(ALIVE);
+        at.say("join ! $ frame ! $ done !");
+        at.text(6)
+    }
+
+    /// From what is held after the last turn to what is said at the exit.
+    fn exits(&self) -> String {
+        let of_params = |plane: &str| {
+            let text = |param: &Param| match param.kind {
+                Kept => format!("{plane} n .{}", PLANES[param.lifetime]),
+                _ => String::from("tt"),
+            };
+            tuple(self.params.iter().map(text))
+        };
+        let mut at = Context::new(self.held());
+        let ends = "ends-at 𝓤 H A filter.ended stayed (clauses K 𝓤) W bound machA (r .answer)";
+        at.say(format!("suffices ! _ ({ends} {} {}) $", of_params("after"), of_params("same")));
+        at.say("says ! (passed K lay cfg ms st al p₀ r e n en) $");
+        at.nothing(ALIVE);
+        (0..self.lifetimes()).rev().for_each(|number| at.join("join", token(number), ALIVE));
+        at.turn(&[ALIVE], &[]);
+        at.say("frame ! $");
+        at.note("nothing is kept of the list and of what was passed by value");
+        at.drop(LIST);
+        at.nothing(OWNED);
+        for param in self.params.iter().rev() {
+            match param.kind {
+                Kept => at.join("fjoin", plane(param.lifetime), OWNED),
+                _ => at.say("nothing ! $ fjoin ! $"),
+            }
+        }
+        at.turn(&[OWNED], &[]);
+        at.say("frame ! $");
+        assert!(at.held().is_empty(), "all that is held is used");
+        let answer = "N.the-row (Is N.the-row) (EL.makes N.the-type N′.the-plain 𝓤 H A) (r .answer) _ isA";
+        at.say(format!("owned ! {answer} $ done !"));
+        at.filled(8, WIDTH)
+    }
+
+    /// The test of the loop is done, and known.
+    fn tests(&self, at: &mut Context, then: &str) {
+        let value = format!("(bin ! {} {} tt)", at.var(self.index), at.field(self.batch, 2));
+        at.assign(&value, self.test, "(tt, tt)");
+        self.rewrites(at, self.test, "y : Bool", "(vbool y)", "t");
+        at.say(format!("{then} ! {} $", at.var(self.test)));
+    }
+
+    /// The value of a local is written otherwise.
+    fn rewrites(&self, at: &mut Context, local: usize, binder: &str, value: &str, equal: &str) {
+        let (place, ty, name) = (at.place((CELL, local)), &self.types()[local], sub("l", local));
+        at.say(format!("rewrite ! {place} (λ ({binder}). ‵ (fat fullShare {ty} {name} 0 {value})) {equal} refl $"));
+    }
+
+    /// A turn that does a step.
+    fn more(&self) -> String {
+        let (lent_for, held_as) = (|number| ("lent", number), |number| ("again", number));
+        let (back, last) = (|number| ("back", number), |number| ("last", number));
+        let list_token = token(self.list_lifetime);
+        let mut at = Context::new(self.held().into_iter().chain(locals(self.count)));
+        self.tests(&mut at, "stays");
+        for number in 0..PLANES.len() {
+            at.lend(number + 1, self.lent + 2 * number, &sub("room", number));
+        }
+        let far = "record { fits = far }";
+        let offset = format!("(bin ! {} (lit ! tt) ({far}))", at.var(self.index));
+        at.assign(&offset, self.offset, &format!("(tt, {far})"));
+        let pointer = format!("(bin ! {} {} tt)", at.field(self.list, 0), at.var(self.offset));
+        at.assign(&pointer, self.pointer, "(tt, tt)");
+        self.rewrites(&mut at, self.pointer, "p : ℕ", "(vptr bl p)", "(sym (place-is 8 ol i))");
+
+        at.note("the record is copied out of the list");
+        at.front(&[LIST, list_token]);
+        let row = "R (Is R) (shows 𝓤 H A R) (LL.vals T.the-type T′.the-laws) (LL.tells T.the-type T′.the-laws)";
+        at.open(format!("looks-slice ! tt {row} (LL.copy T.the-type T′.the-copy 𝓤 H A W) ms bl ol (λ q″."));
+        at.open(format!("elem-out ! {row} q″ ms i noRecord bl ol listed (λ g."));
+        let record = ("record", 0);
+        let opened = [record, ("record's own", 0), ("other records", 0), ("open list", 0), LIST];
+        at.turn(&[LIST, list_token], &opened);
+        let through = format!("(from ! (hop ! {} (stop !)))", at.look(self.pointer));
+        let copied = format!("(of-opd ! (load ! {through} (look-raw ! {} refl)))", at.place(record));
+        let typed = "(LL.lawful T.the-type T′.the-laws 𝓤 H A W .typed (elem (n .0)) _ g .0)";
+        at.assign(&copied, self.record, typed);
+        at.say(
+            "elem-back ! R q″ ms i noRecord (mach (elem (n .0)) ∷ []) bl ol listed $ shuts-slice ! tt R q″ ms bl ol $",
+        );
+        at.turn(&opened, &[list_token, LIST]);
+
+        at.note("each plane is lent again, for a lifetime of the call");
+        for (number, field) in PLANES.iter().enumerate() {
+            let [now, same] = ["after", "same"].map(|what| format!("({what} (n .0) .{field})"));
+            at.turn(&[], &[lent_for(number)]);
+            at.open(format!("lft-new ! tt (λ {}.", sub("ν", number)));
+            at.front(&[plane(number), token(number)]);
+            let lifetime = format!("({} ∷ [])", sub("ν", number));
+            let own = owns_as(number, &lifetime, "δ", &now);
+            let borrow = borrow(number);
+            let again = format!("‵ (LentAgain {borrow} δ {now})");
+            let lends = format!("(lends-at {borrow} {} (sym {same}))", at_length(number, &now));
+            let delta = sub("δ", number);
+            let held = format!("(later (some (λ (δ : GName). ‵ ({own}) ⊛ {again})))");
+            at.open(format!("use2 W {held} {lends} $ await ! tt $ pick ! (λ {delta}. split ! $"));
+            at.turn(&[plane(number), token(number)], &[held_as(number), back(number)]);
+        }
+
+        at.note("what the callee asks is put together");
+        at.nothing(ALIVE);
+        (0..PLANES.len()).rev().for_each(|number| at.join("join", lent_for(number), ALIVE));
+        at.line();
+        let structs = joined(self.stepped().into_iter().rev(), " ", |param| made(param, param.name));
+        let element = "owned ! R (Is R) (LL.makes T.the-type T′.the-plain 𝓤 H A) (elem (n .0)) _ g $ fjoin ! $";
+        at.turn(&[], &[OWNED]);
+        at.say(format!("nothing ! $ {element} {} {structs}", number_made("i", "i-fits")));
+        at.line();
+        (0..PLANES.len()).rev().for_each(|number| at.join("fjoin", held_as(number), OWNED));
+        at.front(&[ALIVE, OWNED]);
+        let bound = format!("{} {} (n .0)", subs("ν", 0..PLANES.len()), subs("δ", 0..PLANES.len()));
+        at.line();
+        at.say(format!("use2 W (raw (Stepped K 𝓤 H A .pre (to-step {bound}))) (goes-step {bound} fine) $"));
+        at.turn(&[ALIVE, OWNED], &[PRE]);
+        let operands = at.operands(&self.step_locals());
+        at.open(format!(
+            "calls-at ! (fmOf 𝓤 H (W .laws) 𝓣) (Stepped K 𝓤 H A) known (to-step {bound}) {operands} (λ w."
+        ));
+        let held = format!("({} ⊛ ‵ (unit .own z (w ∷ []))) ⊛ raw (Ensured {bound} z)", step_alive());
+        at.open(format!("use1 W (later (some (λ (z : Unit {{0}}). {held}))) (id⊢ 𝓤 _) $ await ! tt $ pick ! (λ z."));
+        let (returned, ensured, fact, result) = (("returned", 0), ("ensured", 0), ("fact", 0), ("result", 0));
+        at.turn(&[PRE], &[returned, ensured]);
+        at.say("split ! $");
+        at.front(&[ensured]);
+        let lasts = format!("‵ (Last {bound} zs) ⊛ raw (fact 𝓤 (Said {bound} zs))");
+        at.open(format!("use1 W (some (λ (zs : Lasts {bound}). {lasts})) (id⊢ 𝓤 _) $ pick ! (λ zs."));
+        at.turn(&[ensured], &[OWNED, fact]);
+        at.line();
+        at.say("split ! $");
+        at.front(&[fact]);
+        at.turn(&[fact], &[]);
+        at.open(format!("heard ! (Said {bound} zs) (λ ez."));
+        for (number, field) in PLANES.iter().enumerate() {
+            let (one, equal) = (("one", number), ("equal", number));
+            at.front(&[OWNED]);
+            at.split("fsplit", OWNED, [one, OWNED]);
+            at.split("fsplit", one, [last(number), equal]);
+            at.front(&[equal]);
+            at.turn(&[equal], &[]);
+            at.open(format!("feqL ! (λ l{field}."));
+        }
+        at.front(&[returned]);
+        at.split("split", returned, [ALIVE, result]);
+        at.front(&[result]);
+        at.turn(&[result], &[]);
+        at.open("feqL ! (λ eu.");
+        let typed = "(subst (λ (y : Val). Holds (hasTy tyUnit y) × WT y) (sym (ap only eu)) (tt, tt))";
+        at.say(format!("land ! {} $", at.init(self.unit, typed)));
+
+        at.note("the lifetimes are ended, and the planes come back at their last lists");
+        for (number, field) in PLANES.iter().enumerate() {
+            let [now, same] = ["after", "same"].map(|what| format!("({what} (n .0) .{field})"));
+            let (ended, after) = (("ended", number), format!("({})", component("zs", number)));
+            at.front(&[ALIVE]);
+            at.line();
+            at.say("split ! $ lft-end ! tt $");
+            at.turn(&[ALIVE], &[ended, ALIVE]);
+            at.front(&[ended, back(number), last(number)]);
+            let got =
+                format!("(later (‵ ({}) ⊛ ‵ (flft {} {})))", owns(number, &after), sub("κ", number), sub("q", number));
+            let length = format!("{} (sym {same})", at_length(number, &now));
+            let comes = format!(
+                "comes-at {} {length} {} {after} {} l{field}",
+                borrow(number),
+                sub("δ", number),
+                sub("room", number)
+            );
+            at.say(format!("use3 W {got} ({comes}) $ await ! tt $ split ! $"));
+            at.turn(&[ended, back(number), last(number)], &[plane(number), token(number)]);
+            let equal =
+                format!("(ap (λ (p : Planes). p .{field}) (ez ∙ one-step K lay cfg ms st al p₀ (r .from) (n .0)))");
+            at.say(format!(
+                "rewrite ! {} (λ (l′ : List ℕ). ‵ ({})) {equal} refl $",
+                at.place(plane(number)),
+                owns(number, "l′")
+            ));
+        }
+
+        at.note("the next turn");
+        let fits = "record { fits = next-fits }";
+        let (place, index) = (at.place((CELL, self.index)), at.var(self.index));
+        at.say(format!(
+            "assigns-last ! (bin ! {index} (lit ! tt) ({fits})) (from ! (stop !)) (store ! {place} refl (tt, {fits})) $"
+        ));
+        self.rewrites(&mut at, self.index, "j : ℕ", "(vint w64 j)", "(add-assoc (r .from) (n .0) 1)");
+        (self.test..self.count).for_each(|local| at.forget(local));
+        at.drop(OWNED);
+        at.drop(ALIVE);
+        at.front(&self.held());
+        assert!(
+            at.held() == Context::new(self.held().into_iter().chain(locals(self.count))).held(),
+            "as before the turn"
+        );
+        at.close("again ! Nearer At n next nearer");
+        at.filled(10, WIDTH)
+    }
+
+    /// The turn that leaves the loop, and the rest of the body.
+    fn over(&self) -> String {
+        let mut at = Context::new(self.held().into_iter().chain(locals(self.count)));
+        self.tests(&mut at, "leaves-loop");
+        at.say("exec ! C Λ En t-8 (atRet En Post) $");
+        let typed = "(EL.lawful N.the-type N′.the-laws 𝓤 H A W tt .typed (r .answer) _ isA .0)";
+        let answer = format!("(of-opd ! {}) {}", at.field(self.batch, 0), at.init(0, typed));
+        at.say(format!("assigns ! {answer} $ returns ! {} $", at.look(0)));
+        (0..=self.test).for_each(|local| at.forget(local));
+        (0..self.count).for_each(|local| at.free(local));
+        assert!(at.held() == self.held(), "what is left is what the exit asks");
+        at.say("free0 ! $ by ! (exits (n .0) whole-done)");
+        at.filled(10, WIDTH)
+    }
+
+    /// From the judge's return to the loop: what the parameters own is taken apart.
+    fn after_judge(&self) -> String {
+        let mut at = Context::new(locals(self.count).into_iter().chain([ALIVE, OWNED]));
+        at.assign(&format!("(of-opd ! {})", at.field(self.batch, 1)), self.index, "(tt, record { fits = from-fits })");
+        let (whole, place, rest, reserve) =
+            (("whole list", 0), ("list's place", 0), ("list's rest", 0), ("reserve", 0));
+        for param in &self.params[..self.list] {
+            let one = if param.kind == Kept { plane(param.lifetime) } else { whole };
+            at.front(&[OWNED]);
+            at.split("fsplit", OWNED, [one, OWNED]);
+            if let Plain(..) = param.kind {
+                at.drop(one);
+            }
+        }
+        at.split("fsplit", whole, [place, rest]);
+        at.front(&[rest]);
+        at.split("fsplit", rest, [reserve, LIST]);
+        [reserve, place, OWNED].into_iter().for_each(|held| at.drop(held));
+        for number in 0..self.lifetimes() {
+            at.front(&[ALIVE]);
+            at.split("split", ALIVE, [token(number), ALIVE]);
+        }
+        at.drop(ALIVE);
+        at.front(&self.held());
+        for (number, field) in PLANES.iter().enumerate() {
+            let equal = format!("(ap (λ (p : Planes). p .{field}) (no-step K lay cfg ms st al p₀ (r .from)))");
+            let place = at.place(plane(number));
+            at.say(format!("rewrite ! {place} (λ (l : List ℕ). ‵ ({})) {equal} refl $", owns(number, "l")));
+        }
+        self.rewrites(&mut at, self.index, "j : ℕ", "(vint w64 j)", "(sym (add-zero (r .from)))");
+        at.say("looped");
+        at.filled(10, WIDTH)
+    }
+
+    /// From the entry to the judge's return.
+    fn walk(&self) -> String {
+        let places = subs("l", 0..self.count);
+        let mut at = Context::new(locals(self.count).into_iter().chain([ALIVE, OWNED]));
+        at.open(format!("(λ {places}."));
+        at.line();
+        for slice in self.slices() {
+            let typed = format!("(tt, record {{ fits = {} .0 }})", slice.witness);
+            at.assign(&format!("(of-opd ! {})", at.field(slice.place + 1, 1)), self.length(slice), &typed);
+            at.line();
+        }
+        at.say("use0 W (raw (Judged 𝓤 H A mem run .pre to-plan)) goes-plan $");
+        at.turn(&[], &[PRE]);
+        at.line();
+        let operands = at.operands(&self.judge_locals());
+        at.open(format!(
+            "calls-at ! (fmOf 𝓤 H (W .laws) 𝓣) (Judged 𝓤 H A mem run) known-judge to-plan {operands} (λ w."
+        ));
+        at.line();
+        let ensured = "raw (ensured 𝓤 H A judge.ended (judge.clauses 𝓤 H A mem run) tt asked tt r)";
+        let held = format!("(‵ ftrue ⊛ ‵ (P.the-row .own r (w ∷ []))) ⊛ {ensured}");
+        at.open(format!("use1 W (later (some (λ (r : Batch). {held}))) (id⊢ 𝓤 _) $ await ! tt $ pick ! (λ r."));
+        at.line();
+        let (returned, ensured, none, result) = (("returned", 0), ("ensured", 0), ("no tokens", 0), ("result", 0));
+        at.turn(&[PRE], &[returned, ensured]);
+        at.say("split ! $");
+        at.front(&[ensured]);
+        at.turn(&[ensured], &[]);
+        at.open("use1 W (raw (fact 𝓤 (r ≡ batch))) (said r) $ heard ! (r ≡ batch) (λ e.");
+        at.split("split", returned, [none, result]);
+        at.drop(none);
+        at.open("peeks ! P.the-row (Is P.the-row) (shows 𝓤 H A P.the-row) r (w ∷ []) (λ is.");
+        at.drop(result);
+        at.line();
+        let typed = "(LL.lawful P.the-type P′.the-laws 𝓤 H A W .typed r _ is .0)";
+        at.say(format!("land ! {} $", at.init(self.batch, typed)));
+        at.line();
+        self.rewrites(&mut at, self.batch, "z : Val", "z", "(ap only (LL.tells P.the-type P′.the-laws r _ is))");
+        at.line();
+        at.close(&format!("by ! (after-judge r e (spelled r w is) 𝓣 known-step {places} .prf)"));
+        at.text(8)
+    }
+
+    // ---- the text
+
+    /// The MIR and the contracts.
+    fn code(&self) -> Values {
+        let planes = || 0..PLANES.len();
+        let variables = |locals: Vec<usize>| list(locals.into_iter().map(|local| format!("var {local}")));
+        let slice = |number| {
+            format!("abbrev slice{number} : Ty\nslice{number} = sliceTy (tyRef (named {number}) mut (tyInt w8))\n\n")
+        };
+        let lends = joined(planes(), " ", |number| format!("(lent {} {}", number + 1, self.lent + 2 * number));
+        let sets = joined(self.slices(), " (", |slice| {
+            format!("set {} (rvOpd (part {} 1))", self.length(slice), slice.place + 1)
+        });
+        let types: Vec<_> = self.types();
+        let at = |place| component("a", place);
+        // the step has the structs after the planes, then the macroblock and its record
+        let after_structs = PLANES.len() + self.stepped().len();
+        vec![
+            ("slices", joined(planes(), "", slice)),
+            ("list_lifetime", self.list_lifetime.to_string()),
+            ("params", self.params.len().to_string()),
+            ("batch", self.batch.to_string()),
+            ("index", self.index.to_string()),
+            ("lengths", self.lengths.to_string()),
+            ("last_length", (self.test - 1).to_string()),
+            ("test", self.test.to_string()),
+            ("unit", self.unit.to_string()),
+            ("offset", self.offset.to_string()),
+            ("pointer", self.pointer.to_string()),
+            ("list", self.list.to_string()),
+            ("record", self.record.to_string()),
+            ("last", (self.count - 1).to_string()),
+            ("lends", lends),
+            ("step_vars", variables(self.step_locals())),
+            ("judge_vars", variables(self.judge_locals())),
+            ("sets_lengths", sets),
+            ("lifetimes", self.lifetimes().to_string()),
+            ("types", joined(&types, " ", |ty| parenthesized(ty))),
+            ("env", list(types.iter().enumerate().map(|(local, ty)| format!("({ty}, {})", sub("l", local))))),
+            ("at_y", at(0)),
+            ("at_u", at(1)),
+            ("at_v", at(2)),
+            ("at_layout", at(PLANES.len())),
+            ("at_list", at(self.list - 1)),
+            ("at_config", at(self.list)),
+            ("at_start", at(self.list + 1)),
+            ("at_allowance", at(self.list + 2)),
+            ("step_config", at(after_structs - 1)),
+            ("step_place", at(after_structs)),
+            ("step_record", at(after_structs + 1)),
+        ]
+    }
+
+    /// The parameters, and what the two callees are passed.
+    fn passed(&self) -> Values {
+        let planes = || 0..PLANES.len();
+        let each = |text: fn(&Param) -> String| tuple(self.params.iter().map(text));
+        let lifetimes = || 0..self.lifetimes();
+        let kappas = || tuple(lifetimes().map(|number| sub("κ", number)));
+        let binder = |number| {
+            let [b, o, gamma, y] = ["b", "o", "γ", "y"].map(|letter| sub(letter, number));
+            format!("({b} {o} : ℕ) ({gamma} : GName) ({y} : List ℕ)")
+        };
+        let plane_text = |number| {
+            let [b, o, x, y, s] = ["b", "o", "x", "y", "s"].map(|letter| sub(letter, number));
+            let reference = format!("record {{ ptr = ({b}, {o}); name = δ; now = l }}");
+            let reference = format!("  abbrev {x} : GName → List ℕ → RefT (List ℕ)\n  {x} δ l = {reference}\n");
+            let value = format!("  abbrev {s} : Val\n  {s} = sliceVal ({b}, {o}) (length {y})\n");
+            format!("{reference}\n{value}\n")
+        };
+        let known = |param: &Param| match param.kind {
+            Kept => format!("({} : Room u8 (length {}))", param.witness, param.name),
+            Records => format!("({} : Room R (length {}))", param.witness, param.name),
+            _ => format!("({} : {})", param.witness, param.known()),
+        };
+        let named = |param: &Param| match param.kind {
+            Kept => format!("{} {} {}", sub("x", param.lifetime), sub("γ", param.lifetime), param.name),
+            Records => String::from("xl"),
+            _ => param.name.into(),
+        };
+        let value_of = |(param, value): &(&Param, String)| {
+            if is_slice(param.kind) { format!("vint w64 ({value}) ∷ []") } else { format!("{} ∷ []", param.value) }
+        };
+        let lent_row = |number: usize| self.params[number].row_at(&format!("({} ∷ [])", sub("ν", number)));
+        let handed =
+            planes().map(|number| format!("{} {} (after n .{})", sub("x", number), sub("δ", number), PLANES[number]));
+        let handed = handed.chain(self.stepped().into_iter().map(|param| param.name.into()));
+        let handed = handed.chain(["place-of n", "elem n"].map(String::from));
+        let handed_at = planes().map(|number| sub("s", number));
+        let handed_at = handed_at.chain(self.stepped().into_iter().map(|param| param.value.clone()));
+        let handed_at = handed_at.chain(["vint w64 (place-of n)", "mach (elem n)"].map(String::from));
+        let handed_rows = planes().map(lent_row).chain(self.stepped().into_iter().map(Param::row));
+        let handed_rows = handed_rows.chain(["usize", "R"].map(String::from));
+        let lasts = planes().map(|_| "List ℕ").chain((0..self.stepped().len() + 2).map(|_| "Unit {0}"));
+        let rows = list(self.params.iter().map(Param::row));
+        let judged = self.judged();
+        vec![
+            ("stayed", each(Param::stays)),
+            ("kappas", subs("κ", lifetimes())),
+            ("shares", subs("q", lifetimes())),
+            ("plane_binders", joined(planes(), " ", binder)),
+            ("value_binders", joined(self.plain(), " ", |param| format!("({} : {})", param.name, param.ty()))),
+            ("known", joined(self.slices().chain(self.plain()), " ", known)),
+            ("planes", joined(planes(), "", plane_text)),
+            ("firsts", subs("y", planes())),
+            ("Arg", product(self.params.iter().map(Param::ty))),
+            ("a", tuple(self.params.iter().map(named))),
+            ("κs", kappas()),
+            ("qs", tuple(lifetimes().map(|number| sub("q", number)))),
+            ("at", each(|param| format!("{} ∷ []", param.value))),
+            ("judged", joined(&judged, " ", |(_, value)| parenthesized(value))),
+            ("asked", tuple(judged.iter().map(|(_, value)| value.clone()))),
+            ("asked_at", tuple(judged.iter().map(value_of))),
+            ("entered", format!("{} ∷ ‵ (owns ({rows}) a at) ∷ []", alive(self.tokens()))),
+            ("list_kappa", sub("κ", self.list_lifetime)),
+            ("nus", subs("ν", planes())),
+            ("deltas", subs("δ", planes())),
+            ("νs", tuple(planes().map(|number| format!("{} ∷ []", sub("ν", number))))),
+            ("handed", tuple(handed.collect::<Vec<_>>())),
+            ("handed_at", tuple(handed_at.map(|value| value + " ∷ []").collect::<Vec<_>>())),
+            ("full_shares", tuple(planes().map(|_| String::from("fullShare")))),
+            ("had", format!("{} ∷ ‵ (owns ({}) handed handed-at) ∷ []", step_alive(), list(handed_rows))),
+            ("planes_after", joined(PLANES, " ", |field| format!("(after n .{field})"))),
+            ("planes_now", joined(PLANES, " ", |field| format!("(after (n .0) .{field})"))),
+            ("Lasts", product(lasts.map(String::from).collect::<Vec<_>>())),
+            ("lasts", joined(planes(), " ", |number| format!("({})", component("zs", number)))),
+        ]
+    }
+
+    /// The walk, and what it is for.
+    fn steps(&self) -> Values {
+        let each = |text: fn(&Param) -> String| tuple(self.params.iter().map(text));
+        let lifetimes = self.lifetimes();
+        let lifetime_arguments = ["κs", "qs"].into_iter().flat_map(|of| (0..lifetimes).map(move |number| (of, number)));
+        let slice = |slice: &Param| {
+            let reference = component("a", slice.place);
+            joined(["ptr .0", "ptr .1", "name", "now"], " ", |part| format!("({reference} .{part})"))
+        };
+        let arguments =
+            self.slices().map(slice).chain(self.plain().map(|param| format!("({})", component("a", param.place))));
+        let typed = |param: &Param| match param.kind {
+            Kept | Records => format!("({})", slice_typed(&param.witness)),
+            _ => format!("({})", param.typed()),
+        };
+        vec![
+            ("goes_plan", self.goes_plan()),
+            ("held", self.held_text("n")),
+            ("exits", self.exits()),
+            ("places", subs("l", 0..self.count)),
+            ("cells", self.cells(|local| self.value(local, Some("(place-of n)")))),
+            ("held_at", self.held_text("(n .0)")),
+            ("more", self.more()),
+            ("over", self.over()),
+            ("got", self.cells(|local| self.value(local, None))),
+            ("after_judge", self.after_judge()),
+            ("value_list", list(self.params.iter().map(|param| parenthesized(&param.value)))),
+            ("values", joined(&self.params, " ", |param| parenthesized(&param.value))),
+            ("typed", joined(&self.params, " ", typed)),
+            ("walk", self.walk()),
+            ("slots", each(Param::vals)),
+            ("tells", each(Param::tells)),
+            (
+                "lifetime_arguments",
+                joined(lifetime_arguments, " ", |(of, number)| format!("({})", component(of, number))),
+            ),
+            ("arguments", joined(arguments, " ", |argument| argument)),
+            ("witnesses", joined(self.slices().chain(self.plain()), " ", Param::witnessed)),
+            ("goes", tuple(self.params.iter().map(|param| param.goes(lifetimes)))),
+        ]
+    }
+}
+
+/// What the parameter of a plane owns, at its first name and lifetime and this list.
+fn owns(number: usize, list: &str) -> String {
+    owns_as(number, &sub("κ", number), &sub("γ", number), list)
+}
+
+fn owns_as(number: usize, lifetime: &str, name: &str, list: &str) -> String {
+    let reference = format!("({} {name} {list})", sub("x", number));
+    format!("MutSlice (named {number}) {lifetime} u8 .own {reference} ({} ∷ [])", sub("s", number))
+}
+
+/// The loan of a plane for the lifetime of a call.
+fn borrow(number: usize) -> String {
+    let [kappa, nu, q, gamma, b, o] = ["κ", "ν", "q", "γ", "b", "o"].map(|letter| sub(letter, number));
+    format!("u8 {kappa} ({nu} ∷ []) {q} {gamma} {b} {o}")
+}
+
+fn at_length(number: usize, list: &str) -> String {
+    format!("𝓤 H A W (named {number}) (named {number}) {list} (length {})", sub("y", number))
+}
+
+/// What lives during the call of the step.
+fn step_alive() -> String {
+    alive((0..PLANES.len()).map(|number| (format!("({} ∷ [])", sub("ν", number)), String::from("fullShare"))))
+}
+
+/// What a value owns that needs nothing for it.
+fn made(param: &Param, value: &str) -> String {
+    match param.kind {
+        Plain(_, letter) => {
+            let makes = format!("(LL.makes {letter}.the-type {letter}′.the-plain 𝓤 H A)");
+            format!("owned ! {letter}.the-row (Is {letter}.the-row) {makes} {value} _ {} $ fjoin ! $", param.witness)
+        }
+        Number => number_made(value, &param.witness),
+        _ => number_made(&parenthesized(value), &format!("{} .0", param.witness)),
+    }
+}
+
+fn number_made(value: &str, fits: &str) -> String {
+    format!("owned ! usize (Is usize) (uint-makes 𝓤 H A W w64) {value} _ (refl, {fits}) $ fjoin ! $")
+}
+
+/// The proof, and of the function how many locals and parameters it has.
+pub fn proof() -> (Proof, usize, usize) {
+    let walk = Walk::new();
+    let values = [walk.code(), walk.passed(), walk.steps()].concat();
+    let proof = Proof { path: String::from("crates/frame/proofs/RecordWalk.antt"), text: fill(TEMPLATE, &values) };
+    (proof, walk.count, walk.params.len())
+}

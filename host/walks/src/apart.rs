@@ -2,7 +2,7 @@
 //! over key or inter frames and for a pair or a level, and the sum.
 
 use crate::Proof;
-use crate::call::{ALIVE, Call, ENTRY, OWNED, PRE, RESULT, RETURNED, owned};
+use crate::call::{ALIVE, Call, OWNED, RESULT, RETURNED, owned};
 use crate::context::Context;
 use crate::params::Kind::{Given, Number, Plain, Read, ReadDeclared, Source};
 use crate::params::{Kind, Param, params};
@@ -226,12 +226,7 @@ fn steps(call: &Call, before: usize) -> String {
         at.line();
         handed.push(first + field);
     }
-    at.take(&[ENTRY]);
-    at.turn(&[ENTRY], &[PRE]);
-    at.say("use1 W (raw (Inner 𝓤 H A mem run .pre to)) apart $");
-    at.line();
-    call.calls(&mut at, "to", &handed);
-    call.returns(&mut at, &call.alive(), "κs", "cargs");
+    call.calls_apart(&mut at, &handed);
     let lists = if call.given().is_empty() { "" } else { ", at some last lists" };
     at.note(&format!("what the callee ensures{lists}"));
     call.hears(&mut at, "κs", "cargs", handed.len());

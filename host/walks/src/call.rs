@@ -265,6 +265,16 @@ impl Call<'_> {
         next
     }
 
+    /// What is held at the entry is turned into what the callee asks; it is called on these locals and returns.
+    pub fn calls_apart(&self, at: &mut Context, locals: &[usize]) {
+        at.take(&[ENTRY]);
+        at.turn(&[ENTRY], &[PRE]);
+        at.say("use1 W (raw (Inner 𝓤 H A mem run .pre to)) apart $");
+        at.line();
+        self.calls(at, "to", locals);
+        self.returns(at, &self.alive(), "κs", "cargs");
+    }
+
     /// The callee is called on these locals. `to` is the ghost value of the call.
     pub fn calls(&self, at: &mut Context, to: &str, locals: &[usize]) {
         let operands = at.operands(locals);

@@ -3,7 +3,7 @@
 
 use crate::Proof;
 use crate::apart::{Choice, FIELDS, Frames, Of};
-use crate::call::{ALIVE, Call, ENSURED, ENTRY, OWNED, PRE, RESULT, RETURNED, owned};
+use crate::call::{ALIVE, Call, ENSURED, OWNED, RESULT, RETURNED, owned};
 use crate::context::{Context, Held};
 use crate::params::Kind::{Given, Number, Plain, Read, ReadDeclared, Source};
 use crate::params::{Param, params};
@@ -167,12 +167,7 @@ impl Made {
         });
         at.note(self.done);
         let handed = makes(call, &mut at);
-        at.take(&[ENTRY]);
-        at.turn(&[ENTRY], &[PRE]);
-        at.say("use1 W (raw (Inner 𝓤 H A mem run .pre to)) apart $");
-        at.line();
-        call.calls(&mut at, "to", &handed);
-        call.returns(&mut at, &call.alive(), "κs", "cargs");
+        call.calls_apart(&mut at, &handed);
         if self.is_sum() {
             hears_alone(call, &mut at);
         } else {

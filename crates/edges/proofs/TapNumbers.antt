@@ -1,11 +1,11 @@
 -- Numbers of the runs: taps of 16 bits in -128..127, and what the faster arithmetic rests on.
 use mathlib.Core.Path.{_≡_, refl, sym, ap, subst, _∙_}
 use mathlib.Core.Bool.{Bool, true, false, cond, _&&_, _||_}
-use mathlib.Core.Logic.{⊎-elim, inr}
-use Prim.Native.Nat.{ℕ, zero, suc, _+_, _*_, _/_, _≤_, _<_, max, suc-le-suc}
-use native.Mathlib.Nat.{zero-add, le-max-left, le-max-right, max-le, max-eq-left, max-eq-right, le-of-lt, le-of-suc-le-suc, not-suc-le-zero, lt-of-lt-of-le, eq-or-lt-of-le}
+use mathlib.Core.Logic.{inr}
+use Prim.Native.Nat.{ℕ, suc, _+_, _*_, _/_, _≤_, _<_, max, suc-le-suc}
+use native.Mathlib.Nat.{zero-add, le-max-left, le-max-right, max-le, max-eq-left, max-eq-right, le-of-lt, le-of-suc-le-suc, not-suc-le-zero, lt-of-lt-of-le}
 use native.Mathlib.Omega.{arith}
-use lib.Dec.{T, leb, ltb, eqb, leb→le, le→leb, eqb→eq, lit<}
+use lib.Dec.{T, leb, ltb, leb→le, le→leb, lit<}
 use lib.IntN.{ℤ, pos, negsuc, _+ℤ_, _-ℤ_, _*ℤ_, natAbs, +ℤ-negℤ-cancel, -ℤ-+ℤ-cancel}
 use lib.Signed.{mag, ltZ, shrZ, natAbs-le, pos-natAbs}
 use borrow.Author.Tests.{ltb-true, ltb-false, le-ltb, lt-ltb}
@@ -162,39 +162,6 @@ tests-are e a b c d f g i =
     (leb-max (max (max a b) (max d f)) (max c g) i
     ∙ (λ j. (leb-max (max a b) (max d f) i ∙ (λ k. leb-max a b i k && leb-max d f i k)) j && leb-max c g i j))
     ∙ six-tests e (leb a i) (leb b i) (leb c i) (leb d i) (leb f i) (leb g i)
-
--- ---- whole domains
-
-all : (ℕ → Bool) → ℕ → Bool
-all f zero = true
-all f (suc n) = f n && all f n
-
-all-at : (f : ℕ → Bool) (n : ℕ) → T (all f n) → (k : ℕ) → k < n → T (f k)
-unfolding all
-all-at f zero t k h = absurd (not-suc-le-zero h)
-all-at f (suc n) t k h =
-    ⊎-elim
-    (λ e. subst (λ (m : ℕ). T (f m)) (sym e) (first (f n) (all f n) t))
-    (λ l. all-at f n (second (f n) (all f n) t) k l)
-    (eq-or-lt-of-le {n = k} {m = n} (omega arith))
-
-eqZ : ℤ → ℤ → Bool
-eqZ (pos a) (pos b) = eqb a b
-eqZ (pos a) (negsuc b) = false
-eqZ (negsuc a) (pos b) = false
-eqZ (negsuc a) (negsuc b) = eqb a b
-
-eqZ→eq : (a b : ℤ) → T (eqZ a b) → a ≡ b
-unfolding eqZ
-eqZ→eq (pos a) (pos b) t = ap pos (eqb→eq a b t)
-eqZ→eq (pos a) (negsuc b) t = absurd t
-eqZ→eq (negsuc a) (pos b) t = absurd t
-eqZ→eq (negsuc a) (negsuc b) t = ap negsuc (eqb→eq a b t)
-
--- two functions that are the same on -128..127
-on-taps : (f g : ℤ → ℤ) → T (all (λ n. eqZ (f (pos n)) (g (pos n))) 128) → T (all (λ n. eqZ (f (negsuc n)) (g (negsuc n))) 128) → (z : ℤ) → mag z < 128 → f z ≡ g z
-on-taps f g s t (pos n) h = eqZ→eq (f (pos n)) (g (pos n)) (all-at (λ n. eqZ (f (pos n)) (g (pos n))) 128 s n h)
-on-taps f g s t (negsuc n) h = eqZ→eq (f (negsuc n)) (g (negsuc n)) (all-at (λ n. eqZ (f (negsuc n)) (g (negsuc n))) 128 t n h)
 
 -- ---- ranges
 

@@ -9,11 +9,11 @@ use native.Mathlib.Omega.{arith}
 use lib.Dec.{T, leb, ltb, leb→le, ltb→lt, lit<}
 use lib.IntN.{ℤ, pos, negsuc, negℤ, subℕ, _+ℤ_, _-ℤ_, _*ℤ_, natAbs}
 use lib.Signed.{mag, ltZ, nonNeg, shrZ, mag-shr}
-use borrow.Author.Tests.{ltb-true, ltb-false, le-ltb}
+use borrow.Author.Tests.{ltb-true, ltb-false, le-ltb, lt-ltb}
 use mir.Syntax.{Width, w8, w32, w64}
 use mir.Val.{bits, hbits, Fits, SFits, toZ, ofZ}
 use mir.Facts.{toZ-ofZ, toZ-pos}
-use Rattle.arithmetic.specs.Numbers.{clamp, u2s, atMost123}
+use Rattle.arithmetic.specs.Numbers.{clamp, u2s, atMost123, within255}
 
 -- ---- magnitudes
 pub sub-by : (b : Bool) (x y : ℤ) (N : ℕ) → (b ≡ true → mag x < N) → (b ≡ false → mag y < N) → mag (cond b x y) < N
@@ -145,6 +145,10 @@ pub clamp-in : (v : ℤ) → mag (clamp v) < 128
 unfolding clamp
 clamp-in v = sub-by (ltZ v (negsuc 127)) (negsuc 127) (cond (ltZ v (pos 128)) v (pos 127)) 128 (λ e. lit< tt) (λ e. sub-by (ltZ v (pos 128)) v (pos 127) 128 (λ f. mid-in v e f) (λ f. lit< tt))
 
+pub clamp-id : (v : ℤ) → mag v < 128 → clamp v ≡ v
+clamp-id (pos n) h = clamp-mid (pos n) refl (lt-ltb n 128 h)
+clamp-id (negsuc n) h = clamp-mid (negsuc n) (le-ltb 127 n (omega arith)) refl
+
 -- ---- bytes
 pub tighten : {w : Width} {n : ℕ} {z : ℤ} {A B : ℕ} → Is w n z A → mag z < B → Is w n z B
 tighten p h = record { val = p .val; inr = h }
@@ -214,3 +218,74 @@ most-above v e = rw e
 pub most-in : (v : ℤ) → mag v < 128 → mag (atMost123 v) < 128
 unfolding atMost123
 most-in v h = sub-by (ltZ v (pos 123)) v (pos 123) 128 (λ e. h) (λ e. lit< tt)
+
+-- one of two numbers
+pub cond-in : (b : Bool) (x y : ℤ) {N : ℕ} → mag x < N → mag y < N → mag (cond b x y) < N
+cond-in true x y h k = h
+cond-in false x y h k = k
+
+-- ---- three times a difference, which may be limited first
+
+clamp-top : (n : ℕ) → 127 ≤ n → clamp (pos n) ≡ pos 127
+clamp-top n h = pick (ltb n 128) refl
+  where
+    pick : (t : Bool) → ltb n 128 ≡ t → clamp (pos n) ≡ pos 127
+    pick true e = clamp-mid (pos n) refl e ∙ ap pos (omega (arith, ltb-true n 128 e))
+    pick false e = clamp-high (pos n) refl e
+
+clamp-bottom : (n : ℕ) → 127 ≤ n → clamp (negsuc n) ≡ negsuc 127
+clamp-bottom n h = pick (ltb 127 n) refl
+  where
+    pick : (t : Bool) → ltb 127 n ≡ t → clamp (negsuc n) ≡ negsuc 127
+    pick true e = clamp-low (negsuc n) e
+    pick false e = clamp-mid (negsuc n) e refl ∙ ap negsuc (omega (arith, ltb-false 127 n e))
+
+-- a sum of x and a number that settles it
+far-up : (x : ℤ) (m : ℕ) → mag x < 128 → 255 ≤ m → clamp (x +ℤ pos m) ≡ pos 127
+far-up (pos a) m h k = clamp-top (a + m) (omega arith)
+far-up (negsuc a) m h k =
+    ap (λ (t : Bool). clamp (cond t (negsuc (suc a - suc m)) (pos (m - suc a)))) (le-ltb m (suc a) (omega arith)) ∙ clamp-top (m - suc a) (omega arith)
+
+far-down : (x : ℤ) (m : ℕ) → mag x < 128 → 254 ≤ m → clamp (x +ℤ negsuc m) ≡ negsuc 127
+far-down (pos a) m h k =
+    ap (λ (t : Bool). clamp (cond t (negsuc (suc m - suc a)) (pos (a - suc m)))) (lt-ltb a (suc m) (omega arith)) ∙ clamp-bottom (suc m - suc a) (omega arith)
+far-down (negsuc a) m h k = clamp-bottom (suc (a + m)) (omega arith)
+
+pub within-low : (v : ℤ) → ltZ v (negsuc 254) ≡ true → within255 v ≡ negsuc 254
+unfolding within255
+within-low v e = rw e
+
+pub within-mid : (v : ℤ) → ltZ v (negsuc 254) ≡ false → ltZ v (pos 256) ≡ true → within255 v ≡ v
+unfolding within255
+within-mid v e f = rw (e, f)
+
+pub within-high : (v : ℤ) → ltZ v (negsuc 254) ≡ false → ltZ v (pos 256) ≡ false → within255 v ≡ pos 255
+unfolding within255
+within-high v e f = rw (e, f)
+
+pub within-in : (v : ℤ) → mag (within255 v) < 256
+unfolding within255
+within-in v = sub-by (ltZ v (negsuc 254)) (negsuc 254) (cond (ltZ v (pos 256)) v (pos 255)) 256 (λ e. lit< tt) (λ e. sub-by (ltZ v (pos 256)) v (pos 255) 256 (λ f. mid v e f) (λ f. lit< tt))
+  where
+    mid : (v : ℤ) → ltZ v (negsuc 254) ≡ false → ltZ v (pos 256) ≡ true → mag v < 256
+    mid (pos n) e f = ltb-true n 256 f
+    mid (negsuc n) e f = omega (arith, ltb-false 254 n e)
+
+pub limited-first : (x d : ℤ) → mag x < 128 → clamp (x +ℤ pos 3 *ℤ within255 d) ≡ clamp (x +ℤ pos 3 *ℤ d)
+limited-first x (pos n) h = pick (ltb n 256) refl
+  where
+    pick : (t : Bool) → ltb n 256 ≡ t → clamp (x +ℤ pos 3 *ℤ within255 (pos n)) ≡ clamp (x +ℤ pos 3 *ℤ pos n)
+    pick true e = ap (λ (v : ℤ). clamp (x +ℤ pos 3 *ℤ v)) (within-mid (pos n) refl e)
+    pick false e =
+        ap (λ (v : ℤ). clamp (x +ℤ pos 3 *ℤ v)) (within-high (pos n) refl e)
+        ∙ far-up x 765 h (leb→le 255 765 tt) ∙ sym (far-up x (3 * n) h (omega (arith, ltb-false n 256 e)))
+limited-first x (negsuc n) h = pick (ltb 254 n) refl
+  where
+    three : pos 3 *ℤ negsuc n ≡ negsuc (3 * n + 2)
+    three = let e : 3 * suc n ≡ suc (3 * n + 2) = omega arith in ap (λ (k : ℕ). negℤ (pos k)) e
+
+    pick : (t : Bool) → ltb 254 n ≡ t → clamp (x +ℤ pos 3 *ℤ within255 (negsuc n)) ≡ clamp (x +ℤ pos 3 *ℤ negsuc n)
+    pick true e =
+        ap (λ (v : ℤ). clamp (x +ℤ pos 3 *ℤ v)) (within-low (negsuc n) e)
+        ∙ far-down x 764 h (leb→le 254 764 tt) ∙ sym (ap (λ (v : ℤ). clamp (x +ℤ v)) three ∙ far-down x (3 * n + 2) h (omega (arith, ltb-true 254 n e)))
+    pick false e = ap (λ (v : ℤ). clamp (x +ℤ pos 3 *ℤ v)) (within-mid (negsuc n) e refl)

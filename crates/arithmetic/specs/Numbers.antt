@@ -23,3 +23,8 @@ shr v k = shrZ v (2 ^ k)
 -- the lesser of v and 123: for the code alone, which spares the clamps of a + 3 and a + 4
 unfoldable pub atMost123 : ℤ → ℤ
 atMost123 v = cond (ltZ v (pos 123)) v (pos 123)
+
+-- v limited to -255..255, where a difference of two samples lies: for the code alone, so that three times it stays within 16 bits.
+-- `negsuc 254` is -255.
+unfoldable pub within255 : ℤ → ℤ
+within255 v = cond (ltZ v (negsuc 254)) (negsuc 254) (cond (ltZ v (pos 256)) v (pos 255))

@@ -33,13 +33,9 @@ known t e h = R.wrote t e h
 
 -- ---- samples and taps
 
-pub clamp-id : (v : ℤ) → mag v < 128 → clamp v ≡ v
-clamp-id (pos n) h = R.clamp-mid (pos n) refl (lt-ltb n 128 h)
-clamp-id (negsuc n) h = R.clamp-mid (negsuc n) (le-ltb 127 n (omega arith)) refl
-
 pub s2u-of : (v : ℤ) → mag v < 128 → s2u v ≡ natAbs (v +ℤ pos 128)
 unfolding s2u
-s2u-of v h = ap (λ (z : ℤ). natAbs (z +ℤ pos 128)) (clamp-id v h)
+s2u-of v h = ap (λ (z : ℤ). natAbs (z +ℤ pos 128)) (R.clamp-id v h)
 
 pub u2s-s2u : (z : ℤ) → u2s (s2u z) ≡ clamp z
 unfolding u2s s2u
@@ -48,7 +44,7 @@ u2s-s2u z =
     ∙ +ℤ-negℤ-cancel (clamp z) (pos 128)
 
 pub again : (z : ℤ) → mag z < 128 → u2s (s2u z) ≡ z
-again z h = u2s-s2u z ∙ clamp-id z h
+again z h = u2s-s2u z ∙ R.clamp-id z h
 
 pub s2u-u2s : (n : ℕ) → n < 256 → s2u (u2s n) ≡ n
 unfolding u2s
@@ -165,10 +161,6 @@ tests-are e a b c d f g i =
 
 -- ---- ranges
 
-pub cond-in : (b : Bool) (x y : ℤ) {N : ℕ} → mag x < N → mag y < N → mag (cond b x y) < N
-cond-in true x y h k = h
-cond-in false x y h k = k
-
 pub gain-in : (a : ℤ) → mag (gainOf a) < 128
 unfolding gainOf shr
 gain-in a = R.in-shr 8 (clamp (a +ℤ pos 3)) (R.clamp-in _)
@@ -180,14 +172,6 @@ loss-in a = R.in-shr 8 (clamp (a +ℤ pos 4)) (R.clamp-in _)
 pub part-in : (k : ℕ) (w : ℤ) → mag (part k w) < 128
 unfolding part
 part-in k w = R.clamp-in _
-
--- (k w + 63) >> 7 is within the clamp's range
-pub part-is : (k : ℕ) (w : ℤ) → k ≤ 27 → mag w < 128 → shrZ (pos k *ℤ w +ℤ pos 63) 128 ≡ part k w
-unfolding part shr
-part-is k w h i = sym (clamp-id (shrZ (pos k *ℤ w +ℤ pos 63) 128) (lt-of-lt-of-le small (omega arith)))
-  where
-    small : mag (shrZ (pos k *ℤ w +ℤ pos 63) 128) < 29
-    small = R.in-shr-by 128 29 (pos k *ℤ w +ℤ pos 63) (lit< tt) (lt-of-lt-of-le (R.in-add (pos k *ℤ w) (pos 63) (R.in-mulU k w {K = 28} {A = 128} (omega arith) i) (lit< {m = 63} {n = 64} tt)) (omega arith))
 
 -- what a call is handed of such a local
 pub within : {n : ℕ} {z : ℤ} {A : ℕ} → R.Is w16 n z A → mag (toZ w16 n) < A

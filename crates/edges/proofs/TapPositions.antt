@@ -16,7 +16,7 @@ use Rattle.kernels.proofs.Apart.{edge-signed}
 use Rattle.edges.specs.declared.run.InnerTaps.{InnerTaps}
 use Rattle.edges.specs.declared.run.EdgeTaps.{EdgeTaps}
 use Rattle.edges.specs.Private.Runs.{innerTaps, edgeTaps, widenedTaps, softenedTaps, SignedEight, SignedFour}
-use Rattle.edges.proofs.TapNumbers.{clamp-id, u2s-s2u, again, s2u-byte}
+use Rattle.edges.proofs.TapNumbers.{u2s-s2u, again, s2u-byte}
 
 -- ---- a move of 0, and one that is stored
 
@@ -45,10 +45,10 @@ unfolding lossOf clamp shr
 half0 = refl
 
 up0 : (P : ℕ) (a : ℤ) → P < 256 → a ≡ pos 0 → u2s P ≡ clamp (u2s P +ℤ a)
-up0 P a h e = sym (ap (λ (z : ℤ). clamp (u2s P +ℤ z)) e ∙ ap clamp (+ℤ-idr (u2s P)) ∙ clamp-id (u2s P) (R.u2s-in P h))
+up0 P a h e = sym (ap (λ (z : ℤ). clamp (u2s P +ℤ z)) e ∙ ap clamp (+ℤ-idr (u2s P)) ∙ R.clamp-id (u2s P) (R.u2s-in P h))
 
 dn0 : (P : ℕ) (a : ℤ) → P < 256 → a ≡ pos 0 → u2s P ≡ clamp (u2s P -ℤ a)
-dn0 P a h e = sym (ap (λ (z : ℤ). clamp (u2s P -ℤ z)) e ∙ ap clamp (+ℤ-idr (u2s P)) ∙ clamp-id (u2s P) (R.u2s-in P h))
+dn0 P a h e = sym (ap (λ (z : ℤ). clamp (u2s P -ℤ z)) e ∙ ap clamp (+ℤ-idr (u2s P)) ∙ R.clamp-id (u2s P) (R.u2s-in P h))
 
 upS : (P : ℕ) (a b : ℤ) → a ≡ b → u2s (s2u (u2s P +ℤ a)) ≡ clamp (u2s P +ℤ b)
 upS P a b e = u2s-s2u (u2s P +ℤ a) ∙ ap (λ (z : ℤ). clamp (u2s P +ℤ z)) e

@@ -1,6 +1,8 @@
 // RFC 6386, sections 15.2 and 15.3: the kernels on rows of taps, by value. Taps lie in -128..127, and no step branches on them.
 use arithmetic::signed::at_most_123;
 use arithmetic::signed::clamp;
+use arithmetic::signed::filter_value;
+use arithmetic::signed::pick;
 ghost use mathlib.Core.Path.{_≡_};
 ghost use mathlib.Core.Bool.{true, cond};
 ghost use Prim.Native.Nat.{_<_, _≤_, max};
@@ -35,12 +37,6 @@ struct InnerTaps {
 struct EdgeTaps {
     p0: i16,
     q0: i16,
-}
-
-fn pick(yes: bool, a: i16, b: i16) -> i16
-    ensures { λ r. ⌜ r ≡ cond yes a b ⌝ }
-{
-    if yes { a } else { b }
 }
 
 fn larger(a: i16, b: i16) -> i16
@@ -117,11 +113,11 @@ fn high_variance(threshold: u8, p1: i16, p0: i16, q0: i16, q1: i16) -> bool
 }
 
 // a of common_adjust, before it is divided.
-fn filter_value(outer: bool, p1: i16, p0: i16, q0: i16, q1: i16) -> i16
+fn tap_value(outer: bool, p1: i16, p0: i16, q0: i16, q1: i16) -> i16
     requires { ⌜ SignedFour p1 p0 q0 q1 ⌝ }
     ensures { λ r. ⌜ r ≡ filterValue outer p1 p0 q0 q1 ⌝ }
 {
-    clamp(pick(outer, clamp(p1 - q1), 0) + 3 * (q0 - p0))
+    filter_value(outer, p1 - q1, q0 - p0)
 }
 
 fn gain(a: i16) -> i16
@@ -224,7 +220,7 @@ fn mb_position(
 {
     let yes = normal_yes(edge.interior, edge.limit, p3, p2, p1, p0, q0, q1, q2, q3);
     let high = high_variance(edge.threshold, p1, p0, q0, q1);
-    let a = pick(yes, filter_value(true, p1, p0, q0, q1), 0);
+    let a = pick(yes, tap_value(true, p1, p0, q0, q1), 0);
     widened(high, a, p2, p1, p0, q0, q1, q2)
 }
 
@@ -244,7 +240,7 @@ fn sub_position(
 {
     let yes = normal_yes(edge.interior, edge.limit, p3, p2, p1, p0, q0, q1, q2, q3);
     let high = high_variance(edge.threshold, p1, p0, q0, q1);
-    let a = pick(yes, filter_value(high, p1, p0, q0, q1), 0);
+    let a = pick(yes, tap_value(high, p1, p0, q0, q1), 0);
     softened(high, a, p2, p1, p0, q0, q1, q2)
 }
 
@@ -253,7 +249,7 @@ fn simple_position(edge: u8, p1: i16, p0: i16, q0: i16, q1: i16) -> EdgeTaps
     ensures { λ r. ⌜ r ≡ edgeTaps (simpleSegment edge) p1 p0 q0 q1 ⌝ }
 {
     let yes = edge_yes(edge, p1, p0, q0, q1);
-    let a = pick(yes, filter_value(true, p1, p0, q0, q1), 0);
+    let a = pick(yes, tap_value(true, p1, p0, q0, q1), 0);
     EdgeTaps {
         p0: raised(p0, gain(a)),
         q0: lowered(q0, loss(a)),

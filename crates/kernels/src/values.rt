@@ -1,5 +1,4 @@
 // RFC 6386, sections 15.2 and 15.3: the tests and the numbers of one segment, from its samples as stored. A difference of samples is that of their signed numbers.
-use arithmetic::signed::clamp;
 ghost use mathlib.Core.Path.{_≡_};
 ghost use lib.Dec.{leb};
 ghost use lib.IntN.{pos, _-ℤ_};
@@ -67,10 +66,5 @@ fn difference(a: u8, b: u8) -> i16
 pub(crate) fn filter_value(outer: bool, p1: u8, p0: u8, q0: u8, q1: u8) -> i16
     ensures { λ r. ⌜ r ≡ spec.filterValue outer (num.u2s p1) (num.u2s p0) (num.u2s q0) (num.u2s q1) ⌝ }
 {
-    let step = 3 * difference(q0, p0);
-    if outer {
-        clamp(clamp(difference(p1, q1)) + step)
-    } else {
-        clamp(step)
-    }
+    arithmetic::signed::filter_value(outer, difference(p1, q1), difference(q0, p0))
 }

@@ -1,14 +1,14 @@
 // Frames of recorded film: 64 by 64 samples, and 16 by 16.
-use crate::input::Place;
-use crate::input::fill;
-use crate::input::read_place;
-use crate::input::read_recorded;
-use crate::input::read_settings;
 use crate::passes::answered;
 use calls::answers::PassAnswer;
 use frame::pass::filter_frame;
 use frame::pass::filter_inter_frame;
 use levels::config::FrameFilterConfig;
+use recording::input::Place;
+use recording::input::fill;
+use recording::input::read_place;
+use recording::input::read_recorded;
+use recording::input::read_settings;
 
 struct Lists16 {
     modes: [u8; 16],

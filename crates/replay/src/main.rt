@@ -1,35 +1,18 @@
-// Replays recorded calls of the functions that the Rust has too, from standard input, and marks each that is answered as it was recorded.
+// Replays recorded calls of the functions that the Rust has too, but for sums and searches, from standard input, and marks each that is answered as it was recorded.
 mod film;
-mod input;
-mod marks;
 mod passes;
-mod picture;
 mod records;
-mod search_input;
-mod searches;
 mod small;
 
 use crate::film::replay_film16;
 use crate::film::replay_film64;
-use crate::input::Place;
-use crate::input::fill;
-use crate::input::pair;
-use crate::input::read_place;
-use crate::input::read_recorded;
-use crate::input::read_settings;
-use crate::marks::mark;
 use crate::passes::Left;
 use crate::passes::is_left;
 use crate::passes::make_left;
 use crate::passes::replay_halted;
 use crate::passes::replay_idle;
 use crate::passes::replay_pass;
-use crate::picture::Picture;
-use crate::picture::read_picture;
-use crate::picture::stripes;
 use crate::records::read_records;
-use crate::searches::replay_idle_search;
-use crate::searches::replay_search;
 use crate::small::replay_adjust;
 use crate::small::replay_clamp;
 use crate::small::replay_coefficients;
@@ -47,8 +30,18 @@ use calls::records::MacroblockModes;
 use frame::record_pass::filter_frame_records;
 use frame::record_pass::filter_inter_frame_records;
 use levels::config::FrameFilterConfig;
-use libc::STDOUT_FILENO;
 use planes::layout::PlaneLayout;
+use recording::input::Place;
+use recording::input::read_place;
+use recording::input::read_recorded;
+use recording::input::read_settings;
+use recording::marks::begin_section;
+use recording::marks::end_recording;
+use recording::marks::end_section;
+use recording::marks::mark;
+use recording::picture::Picture;
+use recording::picture::read_picture;
+use recording::picture::stripes;
 ghost use Rattle.calls.specs.Answers.{Passed};
 ghost use Rattle.planes.specs.Layout.{planesOf};
 ghost use Rattle.calls.specs.Pass.{keyPass, interPass};
@@ -178,10 +171,6 @@ fn replay(kind: u8) -> bool {
         23 => replay_film64(false),
         24 => replay_film16(true),
         25 => replay_film16(false),
-        26 => replay_search(true),
-        27 => replay_search(false),
-        28 => replay_idle_search(true),
-        29 => replay_idle_search(false),
         _ => false,
     }
 }
@@ -194,17 +183,10 @@ fn replay_many(kind: u8, count: u16) {
     }
 }
 
-// A line: a name, and the marks of the records. The input has their count, two bytes, and the records.
 fn section(name: &[u8], kind: u8) {
-    io::write_all(STDOUT_FILENO, name);
-    io::write_all(STDOUT_FILENO, b" ");
-    let mut b = [0u8; 2];
-    let whole = fill(&mut b);
-    if !whole {
-        mark(false);
-    }
-    replay_many(kind, pair(b[0], b[1]));
-    io::write_all(STDOUT_FILENO, b"\n");
+    let count = begin_section(name);
+    replay_many(kind, count);
+    end_section();
 }
 
 fn small_sections() {
@@ -239,34 +221,8 @@ fn pass_sections() {
     section(b"filter_inter_frame, film 16x16", 25);
 }
 
-// Four marks a record: both sums, and both searches.
-fn search_sections() {
-    section(
-        b"reconstruction_ssd, reconstruction_ssd_from, select_filter_params, select_filter_level",
-        26,
-    );
-    section(
-        b"reconstruction_ssd, reconstruction_ssd_from, select_filter_params_inter, select_filter_level_inter",
-        27,
-    );
-    section(
-        b"reconstruction_ssd, reconstruction_ssd_from, select_filter_params, select_filter_level, nothing changes",
-        28,
-    );
-    section(
-        b"reconstruction_ssd, reconstruction_ssd_from, select_filter_params_inter, select_filter_level_inter, nothing changes",
-        29,
-    );
-}
-
 fn main() {
     small_sections();
     pass_sections();
-    search_sections();
-    let mut more = [0u8; 1];
-    if io::read_full(0, &mut more) == 0 {
-        io::write_all(STDOUT_FILENO, b"end of the recording\n");
-    } else {
-        io::write_all(STDOUT_FILENO, b"the recording goes on\n");
-    }
+    end_recording();
 }

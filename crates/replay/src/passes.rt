@@ -1,21 +1,21 @@
 // The passes over byte lists. Each function replays one recorded call, or two.
-use crate::input::Place;
-use crate::input::Recorded;
-use crate::input::read_place;
-use crate::input::read_recorded;
-use crate::input::read_settings;
-use crate::marks::mark;
-use crate::picture::Lists;
-use crate::picture::Picture;
-use crate::picture::read_lists;
-use crate::picture::read_picture;
-use crate::picture::same_picture;
-use crate::picture::stripes;
 use calls::answers::PassAnswer;
 use calls::answers::pass_refusal_number;
 use frame::pass::filter_frame;
 use frame::pass::filter_inter_frame;
 use levels::config::FrameFilterConfig;
+use recording::input::Place;
+use recording::input::Recorded;
+use recording::input::read_place;
+use recording::input::read_recorded;
+use recording::input::read_settings;
+use recording::marks::mark;
+use recording::picture::Lists;
+use recording::picture::Picture;
+use recording::picture::read_lists;
+use recording::picture::read_picture;
+use recording::picture::same_picture;
+use recording::picture::stripes;
 
 // What a pass answers and leaves.
 pub struct Left {

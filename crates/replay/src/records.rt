@@ -1,5 +1,4 @@
 // Macroblock records, six bytes each: mode, whether there is a segment, segment, flag, reference, inter mode.
-use crate::input::fill;
 use calls::records::MacroblockModes;
 use calls::records::MaybeSegment;
 use levels::modes::InterMode;
@@ -7,6 +6,7 @@ use levels::modes::IntraYMode;
 use levels::modes::MaybeInter;
 use levels::modes::MaybeRef;
 use levels::modes::RefFrame;
+use recording::input::fill;
 
 fn mode(byte: u8) -> IntraYMode {
     match byte {

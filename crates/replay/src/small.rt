@@ -1,12 +1,4 @@
 // Numbers, limits, kernels, levels, coefficients and final rows. Each function replays one call.
-use crate::input::fill;
-use crate::input::read_place;
-use crate::input::read_recorded;
-use crate::input::read_settings;
-use crate::input::signed8;
-use crate::input::signed16;
-use crate::input::signed32;
-use crate::input::size;
 use arithmetic::limits::LoopFilterParams;
 use arithmetic::numbers::clamp_s8;
 use arithmetic::numbers::s2u;
@@ -24,6 +16,14 @@ use levels::coeffs::mb_has_coeffs;
 use levels::level::LevelAnswer;
 use levels::level::calculate_mb_filter_level;
 use levels::level::calculate_mb_filter_level_inter;
+use recording::input::fill;
+use recording::input::read_place;
+use recording::input::read_recorded;
+use recording::input::read_settings;
+use recording::input::signed8;
+use recording::input::signed16;
+use recording::input::signed32;
+use recording::input::size;
 
 pub fn replay_clamp() -> bool {
     let mut b = [0u8; 5];

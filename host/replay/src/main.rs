@@ -1,7 +1,7 @@
-//! Records the answers of the Rust that the program `crates/replay` replays. Where the Rust has no answer, as for a
-//! refused call, the recorded one is document 01's.
+//! Records the answers of the Rust that the programs `crates/replay` and `crates/replay_search` replay. Where the Rust has
+//! no answer, as for a refused call, the recorded one is document 01's.
 //!
-//! Without arguments it writes `stdin` and `stdout` of the program anew. With `--check` it makes them anew and compares
+//! Without arguments it writes `stdin` and `stdout` of the programs anew. With `--check` it makes them anew and compares
 //! them with the files.
 
 mod bytes;
@@ -41,13 +41,15 @@ impl Section {
     }
 }
 
-fn sections() -> Vec<Section> {
+/// A program, and the sections that it replays.
+type Program = (&'static str, Vec<Section>);
+
+fn programs() -> [Program; 2] {
     let random = &mut Random::new(SEED);
     let mut sections = small::sections(random);
     sections.extend(passes::sections(random));
     sections.extend(recorded_film::sections());
-    sections.extend(search::sections(random));
-    sections
+    [("replay", sections), ("replay_search", search::sections(random))]
 }
 
 /// What the program reads: of each section the number of records, and the records.
@@ -78,14 +80,24 @@ fn main() -> ExitCode {
             return ExitCode::from(2);
         }
     };
-    let sections = sections();
-    let directory = Path::new(env!("CARGO_MANIFEST_DIR")).join("../../crates/replay");
+    let programs = programs();
+    let equal = programs.iter().map(|program| keep(program, check)).fold(true, |all, one| all & one);
+    for section in programs.iter().flat_map(|(_, sections)| sections) {
+        let bytes: usize = section.records.iter().map(|record| record.0.len()).sum();
+        println!("{:6} calls, {:6} bytes: {}", section.calls(), bytes, section.name);
+    }
+    if equal { ExitCode::SUCCESS } else { ExitCode::FAILURE }
+}
+
+/// Writes the files of a program, or compares them. Whether they are as they have to be.
+fn keep((name, sections): &Program, check: bool) -> bool {
+    let directory = Path::new(env!("CARGO_MANIFEST_DIR")).join("../../crates").join(name);
     let mut equal = true;
-    for (name, made) in [("stdin", input(&sections)), ("stdout", output(&sections))] {
-        let path = directory.join(name);
+    for (file, made) in [("stdin", input(sections)), ("stdout", output(sections))] {
+        let path = directory.join(file);
         if check {
             if std::fs::read(&path).ok() != Some(made) {
-                eprintln!("replay: crates/replay/{name} is not what the oracle answers now");
+                eprintln!("replay: crates/{name}/{file} is not what the oracle answers now");
                 equal = false;
             }
         } else if let Err(error) = std::fs::write(&path, made) {
@@ -93,9 +105,5 @@ fn main() -> ExitCode {
             equal = false;
         }
     }
-    for section in &sections {
-        let bytes: usize = section.records.iter().map(|record| record.0.len()).sum();
-        println!("{:6} calls, {:6} bytes: {}", section.calls(), bytes, section.name);
-    }
-    if equal { ExitCode::SUCCESS } else { ExitCode::FAILURE }
+    equal
 }

@@ -21,8 +21,8 @@ normal-yes-requires c κs = search needs
 high-variance-requires : tie.Need-high-variance-requires
 high-variance-requires c κs = search needs
 
-filter-value-requires : tie.Need-filter-value-requires
-filter-value-requires c κs = search needs
+tap-value-requires : tie.Need-tap-value-requires
+tap-value-requires c κs = search needs
 
 pick-requires : tie.Need-pick-requires
 pick-requires c κs = search needs
@@ -49,8 +49,8 @@ moved c =
     let q2 = N.back (s .args .q2) (s .pre .q2-in) in
     let q3 = N.back (s .args .q3) (s .pre .q3-in) in
     let yes = c .before .before .before .normal-yes .ensures ∙ (λ i. filterYes (s .args .edge .interior) (s .args .edge .limit) (p3 i) (p2 i) (p1 i) (p0 i) (q0 i) (q1 i) (q2 i) (q3 i)) in
-    let value = N.known {A = 128} tt (c .before .filter-value .ensures ∙ (λ i. filterValue true (p1 i) (p0 i) (q0 i) (q1 i))) (R.clamp-in _) .val in
-    N.known tt (c .pick .ensures ∙ (λ i. cond (yes i) (value i) (pos 0))) (N.cond-in (filterYes (s .args .edge .interior) (s .args .edge .limit) (s .args .p3) (s .args .p2) (s .args .p1) (s .args .p0) (s .args .q0) (s .args .q1) (s .args .q2) (s .args .q3)) (filterValue true (s .args .p1) (s .args .p0) (s .args .q0) (s .args .q1)) (pos 0) (R.clamp-in _) (lit< tt))
+    let value = N.known {A = 128} tt (c .before .tap-value .ensures ∙ (λ i. filterValue true (p1 i) (p0 i) (q0 i) (q1 i))) (R.clamp-in _) .val in
+    N.known tt (c .pick .ensures ∙ (λ i. cond (yes i) (value i) (pos 0))) (R.cond-in (filterYes (s .args .edge .interior) (s .args .edge .limit) (s .args .p3) (s .args .p2) (s .args .p1) (s .args .p0) (s .args .q0) (s .args .q1) (s .args .q2) (s .args .q3)) (filterValue true (s .args .p1) (s .args .p0) (s .args .q0) (s .args .q1)) (pos 0) (R.clamp-in _) (lit< tt))
 
 widened-requires : tie.Need-widened-requires
 widened-requires c κs = let s = start c in (N.within (moved c), (record { p1-in = N.stays (s .args .p2) (s .pre .p2-in); p0-in = N.stays (s .args .p1) (s .pre .p1-in); q0-in = N.stays (s .args .p0) (s .pre .p0-in); q1-in = N.stays (s .args .q0) (s .pre .q0-in) }, (N.stays (s .args .q1) (s .pre .q1-in), N.stays (s .args .q2) (s .pre .q2-in))))
@@ -73,7 +73,7 @@ mb-position-spec =
     (tie.spec
     normal-yes-requires
     high-variance-requires
-    filter-value-requires
+    tap-value-requires
     pick-requires
     widened-requires
     returns)

@@ -5,6 +5,7 @@ use native.Mathlib.Omega.{arith}
 use lib.IntN.{pos}
 use mir.Syntax.{w16}
 use Rattle.arithmetic.proofs.Ranges as R
+use Rattle.kernels.proofs.Cuts.{part-is}
 use Rattle.edges.proofs.TapNumbers as N
 use borrow.Author.Needs.{needs}
 use Rattle.edges.proofs.run.part.Statement.{statement}
@@ -23,7 +24,7 @@ add-result : tie.Need-add-result
 add-result c = R.add? (R.mulU (factor c) (N.tap (c .args .w) (c .pre .1)) tt) (R.lit w16 63 tt) tt
 
 returns : tie.Need-returns
-returns c = R.shr 128 (R.add (R.mulU (factor c) (N.tap (c .args .w) (c .pre .1)) tt) (R.lit w16 63 tt) tt) tt .val ∙ N.part-is (c .args .k) (c .args .w) (c .pre .0) (c .pre .1)
+returns c = let p = R.add (R.mulU (factor c) (N.tap (c .args .w) (c .pre .1)) tt) (R.lit w16 63 tt) tt in R.shr 128 p tt .val ∙ part-is (c .args .k) (c .args .w) p tt
 
 pub part-spec : {M : Type 1} → statement M
 part-spec = tie.close (tie.spec cast-result mul-result add-result returns)

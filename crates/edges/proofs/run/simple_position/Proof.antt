@@ -17,8 +17,8 @@ use Rattle.edges.proofs.run.simple_position.Tie as tie
 edge-yes-requires : tie.Need-edge-yes-requires
 edge-yes-requires c κs = search needs
 
-filter-value-requires : tie.Need-filter-value-requires
-filter-value-requires c κs = search needs
+tap-value-requires : tie.Need-tap-value-requires
+tap-value-requires c κs = search needs
 
 pick-requires : tie.Need-pick-requires
 pick-requires c κs = search needs
@@ -33,8 +33,8 @@ moved c =
     let q0 = N.back (s .args .q0) (s .pre .q0-in) in
     let q1 = N.back (s .args .q1) (s .pre .q1-in) in
     let yes = c .before .before .edge-yes .ensures ∙ (λ i. leb (edgeValue (p1 i) (p0 i) (q0 i) (q1 i)) (s .args .edge)) in
-    let value = N.known {A = 128} tt (c .before .filter-value .ensures ∙ (λ i. filterValue true (p1 i) (p0 i) (q0 i) (q1 i))) (R.clamp-in _) .val in
-    N.known tt (c .pick .ensures ∙ (λ i. cond (yes i) (value i) (pos 0))) (N.cond-in (leb (edgeValue (s .args .p1) (s .args .p0) (s .args .q0) (s .args .q1)) (s .args .edge)) (filterValue true (s .args .p1) (s .args .p0) (s .args .q0) (s .args .q1)) (pos 0) (R.clamp-in _) (lit< tt))
+    let value = N.known {A = 128} tt (c .before .tap-value .ensures ∙ (λ i. filterValue true (p1 i) (p0 i) (q0 i) (q1 i))) (R.clamp-in _) .val in
+    N.known tt (c .pick .ensures ∙ (λ i. cond (yes i) (value i) (pos 0))) (R.cond-in (leb (edgeValue (s .args .p1) (s .args .p0) (s .args .q0) (s .args .q1)) (s .args .edge)) (filterValue true (s .args .p1) (s .args .p0) (s .args .q0) (s .args .q1)) (pos 0) (R.clamp-in _) (lit< tt))
 
 gain-requires : tie.Need-gain-requires
 gain-requires c κs = N.within (moved c)
@@ -68,7 +68,7 @@ simple-position-spec =
     tie.close
     (tie.spec
     edge-yes-requires
-    filter-value-requires
+    tap-value-requires
     pick-requires
     gain-requires
     raised-requires

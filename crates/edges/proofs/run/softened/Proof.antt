@@ -32,7 +32,7 @@ outer : (c : tie.After-pick) → R.Is w16 (ofZ w16 (c .pick .result)) (cond (c .
 unfolding shr
 outer c =
     let half = R.shr 2 (R.add (down (c .before)) (R.lit w16 1 tt) tt) tt in
-    N.known tt (c .pick .ensures ∙ (λ i. cond (c .before .before .args .high) (pos 0) (half .val i))) (N.cond-in (c .before .before .args .high) (pos 0) _ (lit< tt) (half .inr))
+    N.known tt (c .pick .ensures ∙ (λ i. cond (c .before .before .args .high) (pos 0) (half .val i))) (R.cond-in (c .before .before .args .high) (pos 0) _ (lit< tt) (half .inr))
 
 raised-requires : tie.Need-raised-requires
 raised-requires c κs = let s = c .before .before in (N.stays (s .args .p1) (s .pre .1 .p1-in), N.within-256 (outer c) tt)

@@ -25,12 +25,12 @@ pick-requires-2 c κs = search needs
 wide : (c : tie.After-pick2) → R.Is w16 (ofZ w16 (c .before .pick .result)) (cond (c .before .before .args .high) (pos 0) (c .before .before .args .w)) 128
 wide c =
     let s = c .before .before in
-    N.known tt (c .before .pick .ensures ∙ (λ i. cond (s .args .high) (pos 0) (N.back (s .args .w) (s .pre .0) i))) (N.cond-in (s .args .high) (pos 0) (s .args .w) (lit< tt) (s .pre .0))
+    N.known tt (c .before .pick .ensures ∙ (λ i. cond (s .args .high) (pos 0) (N.back (s .args .w) (s .pre .0) i))) (R.cond-in (s .args .high) (pos 0) (s .args .w) (lit< tt) (s .pre .0))
 
 near : (c : tie.After-pick2) → R.Is w16 (ofZ w16 (c .pick2 .result)) (cond (c .before .before .args .high) (c .before .before .args .w) (pos 0)) 128
 near c =
     let s = c .before .before in
-    N.known tt (c .pick2 .ensures ∙ (λ i. cond (s .args .high) (N.back (s .args .w) (s .pre .0) i) (pos 0))) (N.cond-in (s .args .high) (s .args .w) (pos 0) (s .pre .0) (lit< tt))
+    N.known tt (c .pick2 .ensures ∙ (λ i. cond (s .args .high) (N.back (s .args .w) (s .pre .0) i) (pos 0))) (R.cond-in (s .args .high) (s .args .w) (pos 0) (s .pre .0) (lit< tt))
 
 part-requires : tie.Need-part-requires
 part-requires c κs = (omega arith, N.within (wide c))

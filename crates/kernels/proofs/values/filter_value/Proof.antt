@@ -1,9 +1,11 @@
 -- `kernels::values::filter_value` meets its contract.
 -- Assumes nothing.
 use borrow.Author.Needs.{needs}
-use mathlib.Core.Path.{sym, ap, _∙_}
-use mathlib.Core.Bool.{Bool}
-use lib.IntN.{ℤ, pos, _-ℤ_, _*ℤ_, +ℤ-idl}
+use mathlib.Core.Path.{_≡_, _∙_}
+use mathlib.Core.Bool.{cond}
+use Prim.Native.Nat.{ℕ, _<_, _^_}
+use lib.IntN.{ℤ, pos, _+ℤ_, _-ℤ_, _*ℤ_}
+use lib.Signed.{mag}
 use mir.Syntax.{w16}
 use mir.Val.{ofZ, toZ}
 use Rattle.arithmetic.specs.Numbers.{clamp, u2s}
@@ -12,74 +14,27 @@ use Rattle.arithmetic.proofs.Ranges as R
 use Rattle.kernels.proofs.values.filter_value.Statement.{statement}
 use Rattle.kernels.proofs.values.filter_value.Tie as tie
 
-module _ (c : tie.After-difference) where
-  abbrev stepOf : ℤ
-  stepOf = pos 3 *ℤ (u2s (c .before .args .q0) -ℤ u2s (c .before .args .p0))
-
-  apart0 : R.Is w16 (ofZ w16 (c .difference .result)) (u2s (c .before .args .q0) -ℤ u2s (c .before .args .p0)) 256
-  apart0 = R.got (c .difference .ok) (c .difference .ensures) (R.difference-in _ _ (c .before .fits .q0 .fits) (c .before .fits .p0 .fits))
-
-  step : R.Is w16 (ofZ w16 (pos 3 *ℤ toZ w16 (ofZ w16 (c .difference .result)))) stepOf 768
-  step = R.mul 3 apart0 tt tt
-
-module _ (c : tie.After-clamp) where
-  abbrev s : tie.Start
-  s = c .before .before .before .before
-
-  apart1 : R.Is w16 (ofZ w16 (c .before .difference2 .result)) (u2s (s .args .p1) -ℤ u2s (s .args .q1)) 256
-  apart1 = R.got (c .before .difference2 .ok) (c .before .difference2 .ensures) (R.difference-in _ _ (s .fits .p1 .fits) (s .fits .q1 .fits))
-
-  outer : R.Is w16 (ofZ w16 (c .clamp .result)) (clamp (u2s (s .args .p1) -ℤ u2s (s .args .q1))) 128
-  outer = R.got (c .clamp .ok) (c .clamp .ensures ∙ ap clamp (apart1 .val)) (R.clamp-in _)
-
 difference-requires : tie.Need-difference-requires
 difference-requires c κs = search needs
-
-mul-step : tie.Need-mul-step
-mul-step c = R.mul? 3 (apart0 c) tt tt
 
 difference-requires-2 : tie.Need-difference-requires-2
 difference-requires-2 c κs = search needs
 
-clamp-requires : tie.Need-clamp-requires
-clamp-requires c κs = search needs
+filter-value-requires : tie.Need-filter-value-requires
+filter-value-requires c κs = search needs
 
-add-clamp : tie.Need-add-clamp
-add-clamp c = R.add? (outer c) (step (c .before .before .before)) tt
-
-clamp-requires-2 : tie.Need-clamp-requires-2
-clamp-requires-2 c κs = search needs
-
-clamp-requires-3 : tie.Need-clamp-requires-3
-clamp-requires-3 c κs = search needs
+-- the difference that a call of `difference` gave
+module _ (a b : ℕ) (h : a < 256) (k : b < 256) {r : ℤ} (ok : mag r < 2 ^ 15) (e : r ≡ u2s a -ℤ u2s b) where
+  apart : toZ w16 (ofZ w16 r) ≡ u2s a -ℤ u2s b
+  apart = R.got {w = w16} ok e (R.difference-in a b h k) .val
 
 returns : tie.Need-returns
 unfolding filterValue
 returns c =
-    let b = c .before in
-    let d = b .before .before .before in
-    let x = d .before .args in
-    R.got {w = w16} (c .clamp2 .ok) (c .clamp2 .ensures ∙ ap clamp (R.add (outer b) (step d) tt .val)) (R.clamp-in _) .val
-    ∙ ap (λ (o : Bool). filterValue o (u2s (x .p1)) (u2s (x .p0)) (u2s (x .q0)) (u2s (x .q1))) (sym (b .before .before .if1 .taken))
-
-returns-2 : tie.Need-returns-2
-unfolding filterValue
-returns-2 c =
-    let d = c .before .before in
-    let x = d .before .args in
-    R.got {w = w16} (c .clamp3 .ok) (c .clamp3 .ensures ∙ ap clamp (step d .val ∙ sym (+ℤ-idl (stepOf d)))) (R.clamp-in _) .val
-    ∙ ap (λ (o : Bool). filterValue o (u2s (x .p1)) (u2s (x .p0)) (u2s (x .q0)) (u2s (x .q1))) (sym (c .before .if1 .left))
+    let s = c .before .before .before in
+    let o = apart (s .args .p1) (s .args .q1) (s .fits .p1 .fits) (s .fits .q1 .fits) (c .before .before .difference .ok) (c .before .before .difference .ensures) in
+    let d = apart (s .args .q0) (s .args .p0) (s .fits .q0 .fits) (s .fits .p0 .fits) (c .before .difference2 .ok) (c .before .difference2 .ensures) in
+    R.got {w = w16} (c .filter-value .ok) (c .filter-value .ensures ∙ (λ i. clamp (cond (s .args .outer) (clamp (o i)) (pos 0) +ℤ pos 3 *ℤ d i))) (R.clamp-in _) .val
 
 pub filter-value-spec : {M : Type 1} → statement M
-filter-value-spec =
-    tie.close
-    (tie.spec
-    difference-requires
-    mul-step
-    difference-requires-2
-    clamp-requires
-    add-clamp
-    clamp-requires-2
-    clamp-requires-3
-    returns
-    returns-2)
+filter-value-spec = tie.close (tie.spec difference-requires difference-requires-2 filter-value-requires returns)

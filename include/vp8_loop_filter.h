@@ -1,14 +1,19 @@
 /*
  * The VP8 loop filter (RFC 6386, section 15): the C functions of the Rattle library `loop_filter`.
  *
- * What each function answers and writes is proved. What no proof covers, and the caller must keep:
- *   - A pointer comes with its true length: `seg`, `y`, `u` and `v` point to as many bytes, which may be read and
- *     written, `coeffs` and the lists to as many numbers, which may be read. An out-parameter points to one number that
- *     may be written.
- *   - Lent planes, scratch and out-parameters of one call do not overlap each other, and nobody else uses them while
- *     the call runs.
+ * The functions of the library take numbers and slices, a pointer and a length each. The last part of this header has
+ * structs of these and functions over the structs, which are the easier ones to call: examples/filter.c.
+ *
+ * What each function of the library answers and writes is proved. What no proof covers, and the caller must keep:
+ *   - A pointer comes with its true length: as many numbers may be read there, and written if it does not point to
+ *     const. An out-parameter points to one number that may be written.
+ *   - What a call writes (the planes of a pass, the segment of a kernel, scratch planes, out-parameters) overlaps nothing
+ *     else that the call is given, and nobody else uses it while the call runs. So no list lies in a plane of a pass.
+ *   - What nobody writes while the call runs may overlap: src_y may be y, and one list of zeros may be given as segments
+ *     and as flags.
  *   - A bool is 0 or 1.
- * A pointer that comes with length 0 is not followed, but must not be null.
+ * A pointer that comes with length 0 is not followed, and may be NULL. An out-parameter may not. What a pointer to const
+ * points to is not written.
  *
  * Windows: p1 p0 q0 q1 or p3 p2 p1 p0 q0 q1 q2 q3, starting at index `base` of the slice `seg`, with the edge between
  * p0 and q0. All other bytes of the slice stay as they are.
@@ -298,6 +303,256 @@ uint8_t vp8lf_select_filter_level_inter(
     int16_t zero_mv_mode_delta, int16_t other_mv_mode_delta, int16_t split_mv_mode_delta,
     uint8_t *scratch_y, size_t scratch_y_len, uint8_t *scratch_u, size_t scratch_u_len, uint8_t *scratch_v,
     size_t scratch_v_len, uint8_t *level, size_t *count);
+
+/*
+ * Structs, and the same calls over them.
+ *
+ * No struct crosses to the library: these functions are compiled with the caller, and pass its numbers on. Each is named
+ * with the function of the library that it calls, answers its refusals, and writes through its last pointer only if it is
+ * not refused.
+ *
+ * A plane or list that is NULL counts as empty, whatever its length says. So a pass over it is refused, with
+ * VP8LF_SHORT_PLANE or VP8LF_WRONG_LENGTH.
+ */
+
+/* What the bytes of a macroblock stand for. */
+enum vp8lf_mode { VP8LF_MODE_DC, VP8LF_MODE_V, VP8LF_MODE_H, VP8LF_MODE_TM, VP8LF_MODE_B };
+
+enum vp8lf_reference {
+    VP8LF_REFERENCE_NONE,
+    VP8LF_REFERENCE_LAST,
+    VP8LF_REFERENCE_GOLDEN,
+    VP8LF_REFERENCE_ALTREF
+};
+
+enum vp8lf_inter_mode {
+    VP8LF_INTER_MODE_NONE,
+    VP8LF_INTER_MODE_ZERO,
+    VP8LF_INTER_MODE_NEAREST,
+    VP8LF_INTER_MODE_NEAR,
+    VP8LF_INTER_MODE_NEW,
+    VP8LF_INTER_MODE_SPLIT
+};
+
+/*
+ * A picture. It is made by vp8lf_planes_of alone: later versions may add fields. A call that takes a pointer to const
+ * does not write its samples.
+ */
+struct vp8lf_planes {
+    uint8_t *y, *u, *v;
+    size_t y_len, u_len, v_len;
+    size_t mb_cols, mb_rows;
+    size_t y_stride, uv_stride;
+};
+
+/* The settings of a frame, as they are listed above. What an initialiser leaves out is 0. */
+struct vp8lf_settings {
+    bool simple;
+    bool key_frame;
+    uint8_t loop_filter_level;
+    uint8_t sharpness_level;
+    bool segmentation_enabled;
+    bool segment_abs;
+    int16_t segment_level[4];
+    bool delta_enabled;
+    int16_t ref_delta_current;
+    int16_t bpred_mode_delta;
+    int16_t ref_delta_last;
+    int16_t ref_delta_golden;
+    int16_t ref_delta_altref;
+    int16_t zero_mv_mode_delta;
+    int16_t other_mv_mode_delta;
+    int16_t split_mv_mode_delta;
+};
+
+/* One byte a macroblock in each list, in raster order. Calls without _inter in their name read the first three alone. */
+struct vp8lf_lists {
+    const uint8_t *modes;
+    const uint8_t *segments;
+    const uint8_t *flags;
+    const uint8_t *references;
+    const uint8_t *inter_modes;
+    /* The length of each list. */
+    size_t len;
+};
+
+/* The picture that a reconstruction is measured against. Width and height are in luma samples. */
+struct vp8lf_source {
+    const uint8_t *y, *u, *v;
+    size_t y_len, u_len, v_len;
+    size_t width, height;
+    size_t y_stride, uv_stride;
+};
+
+/* Three planes for a search to work in, with the strides of the reconstruction. */
+struct vp8lf_scratch {
+    uint8_t *y, *u, *v;
+    size_t y_len, u_len, v_len;
+};
+
+/* How many macroblocks a call did, and the start to go on from. */
+struct vp8lf_done {
+    size_t count, next;
+};
+
+/* Rows of samples, from the top: of y, and of u and of v. */
+struct vp8lf_rows {
+    size_t luma, chroma;
+};
+
+/* What a search chose, and how many candidates it scored at a level above 0. */
+struct vp8lf_choice {
+    uint8_t level, sharpness;
+    size_t count;
+};
+
+/* A slice as two arguments: NULL has length 0. */
+#define VP8LF_SLICE(pointer, len) (pointer), ((pointer) == NULL ? 0 : (len))
+#define VP8LF_PLANES(p) \
+    VP8LF_SLICE((p)->y, (p)->y_len), VP8LF_SLICE((p)->u, (p)->u_len), VP8LF_SLICE((p)->v, (p)->v_len)
+#define VP8LF_GRID(p) (p)->mb_cols, (p)->mb_rows, (p)->y_stride, (p)->uv_stride
+#define VP8LF_SOURCE(s) VP8LF_PLANES(s), (s)->width, (s)->height, (s)->y_stride, (s)->uv_stride
+#define VP8LF_LISTS(l) \
+    VP8LF_SLICE((l)->modes, (l)->len), VP8LF_SLICE((l)->segments, (l)->len), VP8LF_SLICE((l)->flags, (l)->len)
+#define VP8LF_INTER_LISTS(l) \
+    VP8LF_LISTS(l), VP8LF_SLICE((l)->references, (l)->len), VP8LF_SLICE((l)->inter_modes, (l)->len)
+#define VP8LF_SETTINGS(s) \
+    (s)->simple, (s)->key_frame, (s)->loop_filter_level, (s)->sharpness_level, (s)->segmentation_enabled, \
+        (s)->segment_abs, (s)->segment_level[0], (s)->segment_level[1], (s)->segment_level[2], \
+        (s)->segment_level[3], (s)->delta_enabled, (s)->ref_delta_current, (s)->bpred_mode_delta, \
+        (s)->ref_delta_last, (s)->ref_delta_golden, (s)->ref_delta_altref, (s)->zero_mv_mode_delta, \
+        (s)->other_mv_mode_delta, (s)->split_mv_mode_delta
+
+/* What a refusal number means. */
+static inline const char *vp8lf_refusal_text(uint8_t number)
+{
+    static const char *const texts[] = {
+        "not refused",
+        "columns or rows above 1024",
+        "a luma stride below 16 x columns, a chroma stride below 8 x columns, or either above 65536",
+        "a plane or scratch plane that is too short for the grid",
+        "a window that does not fit into its slice at its base",
+        "a list whose length is not columns x rows",
+        "a mode above 4, a reference above 3 or an inter mode above 5",
+        "a start above columns x rows",
+        "a source wider than 16 x columns or higher than 16 x rows",
+        "a source stride below its row or above 65536, or a source plane that is too short",
+        "an error sum that exceeds 64 bits",
+    };
+    return number < sizeof texts / sizeof texts[0] ? texts[number] : "a number that is no refusal of this library";
+}
+
+/* A picture of these planes, in the order in which the functions of the library take them. */
+static inline struct vp8lf_planes vp8lf_planes_of(uint8_t *y, size_t y_len, uint8_t *u, size_t u_len, uint8_t *v,
+                                                  size_t v_len, size_t mb_cols, size_t mb_rows, size_t y_stride,
+                                                  size_t uv_stride)
+{
+    struct vp8lf_planes planes;
+    planes.y = y;
+    planes.u = u;
+    planes.v = v;
+    planes.y_len = y_len;
+    planes.u_len = u_len;
+    planes.v_len = v_len;
+    planes.mb_cols = mb_cols;
+    planes.mb_rows = mb_rows;
+    planes.y_stride = y_stride;
+    planes.uv_stride = uv_stride;
+    return planes;
+}
+
+/* vp8lf_calculate_mb_filter_level */
+static inline uint8_t vp8lf_level(const struct vp8lf_settings *settings, uint8_t segment, uint8_t mode, uint8_t *level)
+{
+    return vp8lf_calculate_mb_filter_level(VP8LF_SETTINGS(settings), segment, mode, level);
+}
+
+/* vp8lf_calculate_mb_filter_level_inter */
+static inline uint8_t vp8lf_level_inter(const struct vp8lf_settings *settings, uint8_t segment, uint8_t reference,
+                                        uint8_t inter_mode, uint8_t mode, uint8_t *level)
+{
+    return vp8lf_calculate_mb_filter_level_inter(VP8LF_SETTINGS(settings), segment, reference, inter_mode, mode,
+                                                 level);
+}
+
+/* vp8lf_filter_frame, which writes the planes. */
+static inline uint8_t vp8lf_filter(struct vp8lf_planes *planes, const struct vp8lf_lists *lists,
+                                   const struct vp8lf_settings *settings, size_t start, size_t allowance,
+                                   struct vp8lf_done *done)
+{
+    return vp8lf_filter_frame(VP8LF_PLANES(planes), VP8LF_GRID(planes), VP8LF_LISTS(lists), VP8LF_SETTINGS(settings),
+                              start, allowance, &done->count, &done->next);
+}
+
+/* vp8lf_filter_inter_frame, which writes the planes. */
+static inline uint8_t vp8lf_filter_inter(struct vp8lf_planes *planes, const struct vp8lf_lists *lists,
+                                         const struct vp8lf_settings *settings, size_t start, size_t allowance,
+                                         struct vp8lf_done *done)
+{
+    return vp8lf_filter_inter_frame(VP8LF_PLANES(planes), VP8LF_GRID(planes), VP8LF_INTER_LISTS(lists),
+                                    VP8LF_SETTINGS(settings), start, allowance, &done->count, &done->next);
+}
+
+/* vp8lf_final_rows, which reads the grid alone: a picture whose strides or planes are refused elsewhere is answered. */
+static inline uint8_t vp8lf_rows_final(const struct vp8lf_planes *planes, size_t start, struct vp8lf_rows *rows)
+{
+    return vp8lf_final_rows(VP8LF_GRID(planes), start, &rows->luma, &rows->chroma);
+}
+
+/* vp8lf_reconstruction_ssd, which writes neither picture. */
+static inline uint8_t vp8lf_error_sum(const struct vp8lf_planes *planes, const struct vp8lf_source *source,
+                                      uint64_t *sum)
+{
+    return vp8lf_reconstruction_ssd(VP8LF_PLANES(planes), VP8LF_GRID(planes), VP8LF_SOURCE(source), sum);
+}
+
+/* vp8lf_select_filter_params, which writes scratch and neither picture. */
+static inline uint8_t vp8lf_search(const struct vp8lf_planes *planes, const struct vp8lf_source *source,
+                                   const struct vp8lf_lists *lists, const struct vp8lf_settings *settings,
+                                   struct vp8lf_scratch *scratch, struct vp8lf_choice *choice)
+{
+    return vp8lf_select_filter_params(VP8LF_PLANES(planes), VP8LF_GRID(planes), VP8LF_SOURCE(source),
+                                      VP8LF_LISTS(lists), VP8LF_SETTINGS(settings), VP8LF_PLANES(scratch),
+                                      &choice->level, &choice->sharpness, &choice->count);
+}
+
+/* vp8lf_select_filter_params_inter, which writes scratch and neither picture. */
+static inline uint8_t vp8lf_search_inter(const struct vp8lf_planes *planes, const struct vp8lf_source *source,
+                                         const struct vp8lf_lists *lists, const struct vp8lf_settings *settings,
+                                         struct vp8lf_scratch *scratch, struct vp8lf_choice *choice)
+{
+    return vp8lf_select_filter_params_inter(VP8LF_PLANES(planes), VP8LF_GRID(planes), VP8LF_SOURCE(source),
+                                            VP8LF_INTER_LISTS(lists), VP8LF_SETTINGS(settings), VP8LF_PLANES(scratch),
+                                            &choice->level, &choice->sharpness, &choice->count);
+}
+
+/* vp8lf_select_filter_level, which writes scratch and neither picture. The sharpness of the choice stays as it is. */
+static inline uint8_t vp8lf_search_level(const struct vp8lf_planes *planes, const struct vp8lf_source *source,
+                                         const struct vp8lf_lists *lists, const struct vp8lf_settings *settings,
+                                         struct vp8lf_scratch *scratch, struct vp8lf_choice *choice)
+{
+    return vp8lf_select_filter_level(VP8LF_PLANES(planes), VP8LF_GRID(planes), VP8LF_SOURCE(source),
+                                     VP8LF_LISTS(lists), VP8LF_SETTINGS(settings), VP8LF_PLANES(scratch),
+                                     &choice->level, &choice->count);
+}
+
+/* vp8lf_select_filter_level_inter, which writes scratch and neither picture. The sharpness of the choice stays as it is. */
+static inline uint8_t vp8lf_search_level_inter(const struct vp8lf_planes *planes, const struct vp8lf_source *source,
+                                               const struct vp8lf_lists *lists, const struct vp8lf_settings *settings,
+                                               struct vp8lf_scratch *scratch, struct vp8lf_choice *choice)
+{
+    return vp8lf_select_filter_level_inter(VP8LF_PLANES(planes), VP8LF_GRID(planes), VP8LF_SOURCE(source),
+                                           VP8LF_INTER_LISTS(lists), VP8LF_SETTINGS(settings), VP8LF_PLANES(scratch),
+                                           &choice->level, &choice->count);
+}
+
+#undef VP8LF_SLICE
+#undef VP8LF_PLANES
+#undef VP8LF_GRID
+#undef VP8LF_SOURCE
+#undef VP8LF_LISTS
+#undef VP8LF_INTER_LISTS
+#undef VP8LF_SETTINGS
 
 #ifdef __cplusplus
 }

@@ -1,6 +1,6 @@
 /*
  * Compiles against include/vp8_loop_filter.h and calls each function: the bench figures A to O of document 01, the ends of
- * the numbers, and every refusal.
+ * the numbers, every refusal, NULL with length 0, and the functions over structs against those of the library.
  */
 #include "vp8_loop_filter.h"
 
@@ -392,6 +392,346 @@ static void search(void)
                                     scratch_v, 64, &level, &count));
 }
 
+/* NULL with length 0 is an empty slice to every function of the library. */
+static void null_kernels_and_passes(void)
+{
+    struct picture p = sawtooth();
+    int32_t adjustment = 99;
+    check("no coefficients", false, vp8lf_mb_has_coeffs(NULL, 0));
+    check("common_adjust without bytes", VP8LF_NO_WINDOW, vp8lf_common_adjust(true, NULL, 0, 0, &adjustment));
+    check("simple_segment without bytes", VP8LF_NO_WINDOW, vp8lf_simple_segment(20, NULL, 0, 0));
+    check("subblock_filter without bytes", VP8LF_NO_WINDOW, vp8lf_subblock_filter(0, 1, 20, NULL, 0, SIZE_MAX));
+    check("mb_filter without bytes", VP8LF_NO_WINDOW, vp8lf_mb_filter(0, 1, 20, NULL, 0, 0));
+#define NO_BYTES NULL, 0
+#define LISTS p.modes, 2, p.segments, 2, p.flags, 2
+#define HALT AT_63(false), 0, 2, &count_out, &next_out
+    check("a pass without planes", VP8LF_SHORT_PLANE,
+          vp8lf_filter_frame(NO_BYTES, NO_BYTES, NO_BYTES, 2, 1, 32, 16, LISTS, HALT));
+    check("a pass without chroma", VP8LF_SHORT_PLANE,
+          vp8lf_filter_frame(p.y, 512, p.u, 128, NO_BYTES, 2, 1, 32, 16, LISTS, HALT));
+    check("a pass without lists", VP8LF_WRONG_LENGTH,
+          vp8lf_filter_frame(p.y, 512, p.u, 128, p.v, 128, 2, 1, 32, 16, NO_BYTES, NO_BYTES, NO_BYTES, HALT));
+    check("an inter pass without references", VP8LF_WRONG_LENGTH,
+          vp8lf_filter_inter_frame(p.y, 512, p.u, 128, p.v, 128, 2, 1, 32, 16, LISTS, NO_BYTES, NO_BYTES, HALT));
+    check("a pass over nothing", VP8LF_OK,
+          vp8lf_filter_frame(NO_BYTES, NO_BYTES, NO_BYTES, 0, 1, 0, 0, NO_BYTES, NO_BYTES, NO_BYTES, HALT));
+    check("its count and next start", 0, (long long)(count_out + next_out));
+    count_out = next_out = 99;
+    check("an inter pass over nothing", VP8LF_OK,
+          vp8lf_filter_inter_frame(NO_BYTES, NO_BYTES, NO_BYTES, 1, 0, 0, 0, NO_BYTES, NO_BYTES, NO_BYTES, NO_BYTES,
+                                   NO_BYTES, HALT));
+    check("its count and next start", 0, (long long)(count_out + next_out));
+}
+
+static void null_sums_and_searches(void)
+{
+    static uint8_t plane[256], to_y[256], to_u[64], to_v[64];
+    uint64_t sum = 99;
+    struct vp8lf_choice chosen = {99, 99, 99};
+#define NO_PLANES NO_BYTES, NO_BYTES, NO_BYTES
+#define PLANES plane, 256, plane, 64, plane, 64, 1, 1, 16, 8
+#define BEST &chosen.level, &chosen.sharpness, &chosen.count
+    check("a sum without a source", VP8LF_OK, vp8lf_reconstruction_ssd(PLANES, NO_PLANES, 0, 5, 0, 0, &sum));
+    check("it", 0, (long long)sum);
+    check("a sum over a source without bytes", VP8LF_BAD_SOURCE,
+          vp8lf_reconstruction_ssd(PLANES, NO_PLANES, 1, 1, 1, 1, &sum));
+    check("a sum without planes", VP8LF_SHORT_PLANE,
+          vp8lf_reconstruction_ssd(NO_PLANES, 1, 1, 16, 8, NO_PLANES, 0, 0, 0, 0, &sum));
+    check("a search without scratch", VP8LF_SHORT_PLANE,
+          vp8lf_select_filter_params(PLANES, NO_PLANES, 0, 0, 0, 0, NO_PLANES, AT_63(false), NO_PLANES, BEST));
+    check("a search without lists", VP8LF_OK,
+          vp8lf_select_filter_params(PLANES, NO_PLANES, 0, 0, 0, 0, NO_PLANES, AT_63(false), to_y, 256, to_u, 64, to_v,
+                                     64, BEST));
+    check("its candidates", 19, (long long)chosen.count);
+    chosen.count = 99;
+    check("an inter search without anything", VP8LF_OK,
+          vp8lf_select_filter_params_inter(NO_PLANES, 0, 0, 0, 0, NO_PLANES, 0, 0, 0, 0, NO_PLANES, NO_BYTES, NO_BYTES,
+                                           AT_63(false), NO_PLANES, BEST));
+    check("its candidates", 19, (long long)chosen.count);
+    chosen.count = 99;
+    check("a level search without anything", VP8LF_OK,
+          vp8lf_select_filter_level(NO_PLANES, 0, 0, 0, 0, NO_PLANES, 0, 0, 0, 0, NO_PLANES, AT_63(false), NO_PLANES,
+                                    &chosen.level, &chosen.count));
+    check("its candidates", 19, (long long)chosen.count);
+    chosen.count = 99;
+    check("an inter level search without anything", VP8LF_OK,
+          vp8lf_select_filter_level_inter(NO_PLANES, 0, 0, 0, 0, NO_PLANES, 0, 0, 0, 0, NO_PLANES, NO_BYTES, NO_BYTES,
+                                          AT_63(false), NO_PLANES, &chosen.level, &chosen.count));
+    check("its candidates", 19, (long long)chosen.count);
+}
+
+static void refusal_texts(void)
+{
+    static const char *const words[] = {"not refused", "1024", "luma stride", "scratch plane", "window", "list",
+                                        "inter mode", "start", "wider", "source stride", "64 bits", "no refusal"};
+    for (uint8_t number = 0; number < 12; number++)
+        check(words[number], true, strstr(vp8lf_refusal_text(number), words[number]) != NULL);
+    check("the text of 255", true, strcmp(vp8lf_refusal_text(255), vp8lf_refusal_text(11)) == 0);
+}
+
+/* Settings whose numbers all differ, with the five marks that the bits name; and the same as the library takes them. */
+static struct vp8lf_settings settings_of(unsigned bits)
+{
+    struct vp8lf_settings s = {.simple = bits & 1,
+                               .key_frame = bits >> 1 & 1,
+                               .loop_filter_level = 30,
+                               .sharpness_level = 3,
+                               .segmentation_enabled = bits >> 2 & 1,
+                               .segment_abs = bits >> 3 & 1,
+                               .segment_level = {12, 13, 15, 18},
+                               .delta_enabled = bits >> 4 & 1,
+                               .ref_delta_current = -1,
+                               .bpred_mode_delta = 2,
+                               .ref_delta_last = -4,
+                               .ref_delta_golden = 6,
+                               .ref_delta_altref = -9,
+                               .zero_mv_mode_delta = 14,
+                               .other_mv_mode_delta = -11,
+                               .split_mv_mode_delta = 5};
+    return s;
+}
+#define NUMBERS(bits)                                                                                                 \
+    (bits) & 1, (bits) >> 1 & 1, 30, 3, (bits) >> 2 & 1, (bits) >> 3 & 1, 12, 13, 15, 18, (bits) >> 4 & 1, -1, 2, -4, \
+        6, -9, 14, -11, 5
+
+/* Every segment, reference, inter mode and mode, and one of each that is refused. */
+static void levels_of_structs(unsigned bits)
+{
+    const struct vp8lf_settings s = settings_of(bits);
+    for (unsigned i = 0; i < 4 * 5 * 7 * 6; i++) {
+        uint8_t segment = i % 4, reference = i / 4 % 5, inter_mode = i / 20 % 7, mode = (uint8_t)(i / 140);
+        uint8_t expected = 99, came = 99;
+        check("the refusal of vp8lf_level", vp8lf_calculate_mb_filter_level(NUMBERS(bits), segment, mode, &expected),
+              vp8lf_level(&s, segment, mode, &came));
+        check("its level", expected, came);
+        check("the refusal of vp8lf_level_inter",
+              vp8lf_calculate_mb_filter_level_inter(NUMBERS(bits), segment, reference, inter_mode, mode, &expected),
+              vp8lf_level_inter(&s, segment, reference, inter_mode, mode, &came));
+        check("its level", expected, came);
+    }
+}
+
+/* 3 x 2 macroblocks, each plane, stride and list another. Between the rows of a plane are bytes outside the grid. */
+struct frame {
+    uint8_t y[50 * 32], u[27 * 16], v[27 * 16 + 1];
+    uint8_t modes[6], segments[6], flags[6], references[6], inter_modes[6];
+};
+
+/* Steps taken round a circle, from a least number up. */
+static void fill(uint8_t *bytes, size_t len, size_t least, size_t step, size_t circle)
+{
+    for (size_t i = 0; i < len; i++)
+        bytes[i] = (uint8_t)(least + i * step % circle);
+}
+
+static struct frame uneven(void)
+{
+    struct frame f;
+    fill(f.y, sizeof f.y, 100, 7, 11);
+    fill(f.u, sizeof f.u, 120, 5, 9);
+    fill(f.v, sizeof f.v, 140, 3, 8);
+    fill(f.modes, 6, 0, 3, 5);
+    fill(f.segments, 6, 0, 1, 4);
+    fill(f.flags, 6, 0, 1, 2);
+    fill(f.references, 6, 0, 3, 4);
+    fill(f.inter_modes, 6, 0, 5, 6);
+    return f;
+}
+
+static struct vp8lf_planes planes_of(struct frame *f)
+{
+    return vp8lf_planes_of(f->y, sizeof f->y, f->u, sizeof f->u, f->v, sizeof f->v, 3, 2, 50, 27);
+}
+
+static struct vp8lf_lists lists_of(const struct frame *f)
+{
+    struct vp8lf_lists l = {f->modes, f->segments, f->flags, f->references, f->inter_modes, 6};
+    return l;
+}
+#define FRAME(f) (f).y, sizeof (f).y, (f).u, sizeof (f).u, (f).v, sizeof (f).v
+#define THREE(f) (f).modes, 6, (f).segments, 6, (f).flags, 6
+#define FIVE(f) THREE(f), (f).references, 6, (f).inter_modes, 6
+
+static void same_frame(const char *what, const struct frame *expected, const struct frame *came)
+{
+    check_bytes(what, (const uint8_t *)expected, (const uint8_t *)came, sizeof *came);
+}
+
+/* Two calls of the key pass, then one that is refused. */
+static void key_pass_of_structs(unsigned bits)
+{
+    const struct vp8lf_settings s = settings_of(bits);
+    struct frame expected = uneven(), came = expected;
+    struct vp8lf_planes planes = planes_of(&came);
+    struct vp8lf_lists lists = lists_of(&came);
+    struct vp8lf_done done = {0, 0};
+    for (size_t start = 0; start < 6; start = next_out) {
+        check("a call of vp8lf_filter",
+              vp8lf_filter_frame(FRAME(expected), 3, 2, 50, 27, THREE(expected), NUMBERS(bits), start, 4, &count_out,
+                                 &next_out),
+              vp8lf_filter(&planes, &lists, &s, done.next, 4, &done));
+        check("its count", (long long)count_out, (long long)done.count);
+        check("its next start", (long long)next_out, (long long)done.next);
+        same_frame("its planes", &expected, &came);
+    }
+    check("a start that is too large", VP8LF_START_TOO_LARGE, vp8lf_filter(&planes, &lists, &s, 7, 4, &done));
+    check("its next start stays", 6, (long long)done.next);
+}
+
+/* The same of the inter pass. */
+static void inter_pass_of_structs(unsigned bits)
+{
+    const struct vp8lf_settings s = settings_of(bits);
+    struct frame expected = uneven(), came = expected;
+    struct vp8lf_planes planes = planes_of(&came);
+    struct vp8lf_lists lists = lists_of(&came);
+    struct vp8lf_done done = {0, 0};
+    for (size_t start = 0; start < 6; start = next_out) {
+        check("a call of vp8lf_filter_inter",
+              vp8lf_filter_inter_frame(FRAME(expected), 3, 2, 50, 27, FIVE(expected), NUMBERS(bits), start, 4,
+                                       &count_out, &next_out),
+              vp8lf_filter_inter(&planes, &lists, &s, done.next, 4, &done));
+        check("its count", (long long)count_out, (long long)done.count);
+        check("its next start", (long long)next_out, (long long)done.next);
+        same_frame("its planes", &expected, &came);
+    }
+    check("a start that is too large", VP8LF_START_TOO_LARGE, vp8lf_filter_inter(&planes, &lists, &s, 7, 4, &done));
+    check("its next start stays", 6, (long long)done.next);
+}
+
+/* Each plane as long as it must be, then one of them a byte short. */
+static void short_planes_of_structs(void)
+{
+    const struct vp8lf_settings s = settings_of(0);
+    struct frame f = uneven();
+    const struct vp8lf_lists lists = lists_of(&f);
+    struct vp8lf_done done;
+    for (unsigned shorter = 0; shorter < 4; shorter++) {
+        size_t y_len = 50 * 31 + 48 - (shorter == 1), u_len = 27 * 15 + 24 - (shorter == 2);
+        size_t v_len = 27 * 15 + 24 - (shorter == 3);
+        struct vp8lf_planes planes = vp8lf_planes_of(f.y, y_len, f.u, u_len, f.v, v_len, 3, 2, 50, 27);
+        check("a plane that is short", shorter == 0 ? VP8LF_OK : VP8LF_SHORT_PLANE,
+              vp8lf_filter(&planes, &lists, &s, 0, 6, &done));
+    }
+}
+
+static void rows_of_structs(void)
+{
+    struct frame f = uneven();
+    struct vp8lf_planes planes = planes_of(&f);
+    for (size_t start = 0; start < 8; start++) {
+        struct vp8lf_rows expected = {99, 99}, came = {99, 99};
+        check("vp8lf_rows_final", vp8lf_final_rows(3, 2, 50, 27, start, &expected.luma, &expected.chroma),
+              vp8lf_rows_final(&planes, start, &came));
+        check("its luma rows", (long long)expected.luma, (long long)came.luma);
+        check("its chroma rows", (long long)expected.chroma, (long long)came.chroma);
+    }
+}
+
+/* The source is the frame shifted by some bytes, in planes with strides of their own. */
+#define SOURCE(f) (f).y + 3, sizeof (f).y - 3, (f).u + 2, sizeof (f).u - 2, (f).v + 1, sizeof (f).v - 1, 41, 29, 49, 25
+
+static struct vp8lf_source source_of(const struct frame *f)
+{
+    struct vp8lf_source source = {.y = f->y + 3,
+                                  .u = f->u + 2,
+                                  .v = f->v + 1,
+                                  .y_len = sizeof f->y - 3,
+                                  .u_len = sizeof f->u - 2,
+                                  .v_len = sizeof f->v - 1,
+                                  .width = 41,
+                                  .height = 29,
+                                  .y_stride = 49,
+                                  .uv_stride = 25};
+    return source;
+}
+
+static struct vp8lf_scratch scratch_of(struct frame *f)
+{
+    struct vp8lf_scratch scratch = {f->y, f->u, f->v, sizeof f->y, sizeof f->u, sizeof f->v};
+    return scratch;
+}
+
+static struct frame wanted_scratch, scratch;
+static struct vp8lf_choice wanted, chosen;
+
+static void same_search(const char *what, uint8_t expected, uint8_t came)
+{
+    check(what, expected, came);
+    check("its level", wanted.level, chosen.level);
+    check("its sharpness", wanted.sharpness, chosen.sharpness);
+    check("its count", (long long)wanted.count, (long long)chosen.count);
+    same_frame("its scratch", &wanted_scratch, &scratch);
+}
+
+static void searches_of_structs(unsigned bits)
+{
+    const struct vp8lf_settings s = settings_of(bits);
+    struct frame f = uneven();
+    const struct vp8lf_planes planes = planes_of(&f);
+    const struct vp8lf_source source = source_of(&f);
+    const struct vp8lf_lists lists = lists_of(&f);
+    struct vp8lf_scratch lent = scratch_of(&scratch);
+    uint64_t expected = 99, came = 99;
+    check("vp8lf_error_sum", vp8lf_reconstruction_ssd(FRAME(f), 3, 2, 50, 27, SOURCE(f), &expected),
+          vp8lf_error_sum(&planes, &source, &came));
+    check("its sum", (long long)expected, (long long)came);
+#define READ FRAME(f), 3, 2, 50, 27, SOURCE(f)
+#define WORK NUMBERS(bits), FRAME(wanted_scratch)
+    same_search("vp8lf_search",
+                vp8lf_select_filter_params(READ, THREE(f), WORK, &wanted.level, &wanted.sharpness, &wanted.count),
+                vp8lf_search(&planes, &source, &lists, &s, &lent, &chosen));
+    same_search("vp8lf_search_inter",
+                vp8lf_select_filter_params_inter(READ, FIVE(f), WORK, &wanted.level, &wanted.sharpness, &wanted.count),
+                vp8lf_search_inter(&planes, &source, &lists, &s, &lent, &chosen));
+    wanted.sharpness = chosen.sharpness = 99;
+    same_search("vp8lf_search_level",
+                vp8lf_select_filter_level(READ, THREE(f), WORK, &wanted.level, &wanted.count),
+                vp8lf_search_level(&planes, &source, &lists, &s, &lent, &chosen));
+    same_search("vp8lf_search_level_inter",
+                vp8lf_select_filter_level_inter(READ, FIVE(f), WORK, &wanted.level, &wanted.count),
+                vp8lf_search_level_inter(&planes, &source, &lists, &s, &lent, &chosen));
+}
+
+/* A plane or list that is NULL is empty, whatever its length says. */
+static void null_in_structs(void)
+{
+    const struct vp8lf_settings s = settings_of(0);
+    struct frame f = uneven();
+    struct vp8lf_planes planes = planes_of(&f);
+    struct vp8lf_planes no_planes = vp8lf_planes_of(NULL, 9999, NULL, 9999, NULL, 9999, 3, 2, 50, 27);
+    struct vp8lf_source source = source_of(&f), no_source = source;
+    struct vp8lf_lists lists = lists_of(&f), no_lists = {.len = 6}, key_lists = lists;
+    struct vp8lf_scratch lent = scratch_of(&scratch), no_scratch = lent;
+    struct vp8lf_done done = {99, 99};
+    uint64_t sum = 99;
+    no_source.u = NULL;
+    no_scratch.v = NULL;
+    key_lists.references = key_lists.inter_modes = NULL;
+    check("planes that are NULL", VP8LF_SHORT_PLANE, vp8lf_filter(&no_planes, &lists, &s, 0, 6, &done));
+    check("lists that are NULL", VP8LF_WRONG_LENGTH, vp8lf_filter(&planes, &no_lists, &s, 0, 6, &done));
+    check("references that are NULL", VP8LF_WRONG_LENGTH, vp8lf_filter_inter(&planes, &key_lists, &s, 0, 6, &done));
+    check("the count of a refused call", 99, (long long)done.count);
+    check("references that are NULL in the key pass", VP8LF_OK, vp8lf_filter(&planes, &key_lists, &s, 0, 6, &done));
+    check("a source plane that is NULL", VP8LF_BAD_SOURCE, vp8lf_error_sum(&planes, &no_source, &sum));
+    check("a scratch plane that is NULL", VP8LF_SHORT_PLANE,
+          vp8lf_search(&planes, &source, &lists, &s, &no_scratch, &chosen));
+}
+
+static void structs(void)
+{
+    refusal_texts();
+    for (unsigned bits = 0; bits < 32; bits++) {
+        levels_of_structs(bits);
+        key_pass_of_structs(bits);
+        inter_pass_of_structs(bits);
+        searches_of_structs(bits);
+    }
+    short_planes_of_structs();
+    rows_of_structs();
+    null_in_structs();
+}
+
 int main(void)
 {
     numbers();
@@ -424,6 +764,9 @@ int main(void)
     final_rows(1025, 1, SIZE_MAX, VP8LF_GRID_TOO_LARGE, 99, 99);
     final_rows(0, SIZE_MAX, SIZE_MAX, VP8LF_OK, 0, 0);
     search();
+    null_kernels_and_passes();
+    null_sums_and_searches();
+    structs();
     if (failures > 0) {
         printf("header: %d of %d checks failed\n", failures, checks);
         return 1;

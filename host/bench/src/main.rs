@@ -1,16 +1,24 @@
 //! Times both passes and the search of the library against the Rust's on the recorded frames for timing, in one run and
 //! in turn, and prints each smallest time of the library as a part of the Rust's smallest time; then how the time of a
-//! pass grows with the grid.
+//! pass grows with the grid, and what halting costs a caller of the Rust crate.
 //!
 //! The level is forced: every macroblock has it, whatever its segment, reference and mode. "Rows" halts after each row
 //! of macroblocks.
+//!
+//! `--noise AMPLITUDE` adds uniform noise to the frames first. `--libvpx` times the passes against libvpx's SSE2 filters
+//! instead.
 
 mod growth;
+mod halting;
+mod libvpx;
+mod noise;
+mod options;
 mod search;
 
 use entries::bytes::Records;
 use entries::{Layout, Lists, Pass};
 use film::Frame;
+use options::Options;
 use oracle::{FrameFilterConfig, KeyframePlanes};
 use std::fmt;
 use std::process::ExitCode;
@@ -19,17 +27,20 @@ use std::time::{Duration, Instant};
 const LEVELS: [u8; 3] = [8, 24, 48];
 
 fn main() -> ExitCode {
-    let arguments: Vec<String> = std::env::args().skip(1).collect();
-    let repetitions = match &arguments[..] {
-        [] => Some(20),
-        [number] => number.parse().ok().filter(|number| *number > 0),
-        _ => None,
-    };
-    let Some(repetitions) = repetitions else {
-        eprintln!("usage: bench [REPETITIONS]");
+    let Some(Options { repetitions, noise, libvpx, halting }) = Options::read(std::env::args().skip(1)) else {
+        eprintln!("{}", options::USAGE);
         return ExitCode::from(2);
     };
-    let frames = film::bench();
+    let mut frames = film::bench();
+    noise::add(&mut frames, noise);
+    if libvpx {
+        libvpx::compare(&frames, repetitions);
+        return ExitCode::SUCCESS;
+    }
+    if halting {
+        halting::compare(&frames, repetitions);
+        return ExitCode::SUCCESS;
+    }
     passes(&frames, repetitions);
     for frame in &frames {
         for simple in [false, true] {
@@ -37,6 +48,7 @@ fn main() -> ExitCode {
         }
     }
     growth::compare(frames.iter().find(|frame| frame.config().key_frame).expect("a key frame"), repetitions);
+    halting::compare(&frames, repetitions);
     ExitCode::SUCCESS
 }
 

@@ -8,7 +8,7 @@ mod table;
 
 use cited::{Citation, Lines, citations};
 use std::path::{Path, PathBuf};
-use std::process::ExitCode;
+use std::process::{Command, ExitCode};
 use table::{Row, Table};
 
 const TABLE: &str = "host/citations/citations.tsv";
@@ -61,13 +61,22 @@ fn check(rfc: Option<&String>) -> Result<Vec<String>, String> {
         return Ok(faults);
     };
     let bytes = std::fs::read(path).map_err(|error| format!("{path}: {error}"))?;
-    let sum = checksum::sha256(&bytes);
+    let sum = sha256(path)?;
     if sum != table.sum {
         faults.push(format!("{path} has the SHA-256 sum {sum}, {TABLE} names {}", table.sum));
     }
     faults.extend(compare(&String::from_utf8_lossy(&bytes), &table));
     println!("citations: the rows were compared with {path}");
     Ok(faults)
+}
+
+/// The sum that the command `sha256sum`, which `rt` needs too, prints of a file.
+fn sha256(path: &str) -> Result<String, String> {
+    let failed = |error: std::io::Error| format!("sha256sum of {path}: {error}");
+    let file = std::fs::File::open(path).map_err(failed)?;
+    let output = Command::new("sha256sum").stdin(file).output().map_err(failed)?;
+    let printed = String::from_utf8_lossy(&output.stdout);
+    printed.split_once(' ').map(|(sum, _)| sum.to_owned()).ok_or(format!("sha256sum of {path} prints no sum"))
 }
 
 /// Citations that the table does not list, and rows that nobody cites.

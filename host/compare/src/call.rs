@@ -265,9 +265,9 @@ impl fmt::Display for Few<'_> {
 }
 
 /// The samples of a plane that are not its smallest.
-struct Samples<'a> {
-    samples: &'a [u8],
-    stride: usize,
+pub struct Samples<'a> {
+    pub samples: &'a [u8],
+    pub stride: usize,
 }
 
 impl fmt::Display for Samples<'_> {

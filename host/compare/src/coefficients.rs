@@ -1,5 +1,5 @@
-//! `mb_has_coeffs` on lists of 0 to 800 numbers with one number set at each place, on lists with several set, and on
-//! the Rust's `MbCoeffs`, flattened in the order y2, y, u, v.
+//! `mb_has_coeffs` on lists of 0 to 800 numbers with one number set at each place, on lists with several set, on long
+//! lists, with every number set, and on the Rust's `MbCoeffs`, flattened in the order y2, y, u, v. No list changes.
 
 use crate::guard::{self, Guarded, SIDES};
 use crate::soak::Draw;
@@ -9,6 +9,8 @@ use oracle::MbCoeffs;
 use rules::random::Random;
 
 const LONGEST: usize = 800;
+/// Lengths of long lists.
+const LONG: [usize; 8] = [1024, 4096, 4097, 32_768, 65_535, 65_536, 65_537, 1 << 20];
 /// Numbers that are not 0; those with a low or a high byte of 0 among them.
 const SET: [i16; 8] = [1, -1, 2, i16::MAX, i16::MIN, 256, -256, 255];
 
@@ -17,6 +19,19 @@ pub fn compare(plan: &Plan, tally: &mut Tally) {
         let mut memory = Guarded::new((LONGEST + 2) * size_of::<i16>());
         let mut random = Random::new(plan.seed);
         (0..=LONGEST).try_for_each(|len| lists(len, &mut random, &mut memory, kind))
+    });
+    tally.run("mb_has_coeffs, every number", &["one number set"], |kind| {
+        let (mut random, mut memory) = (Random::new(plan.seed), Guarded::new(400 * size_of::<i16>()));
+        (i16::MIN..=i16::MAX).filter(|number| *number != 0).try_for_each(|number| {
+            let mut list = vec![0; random.one_of(&[1, 25, 400])];
+            let place = random.below(list.len());
+            list[place] = number;
+            same(kind, "one number set", memory.lend(random.one_of(&SIDES), &list), true)
+        })
+    });
+    tally.run("mb_has_coeffs, long lists", &["no number set", "one number set"], |kind| {
+        let (mut random, mut memory) = (Random::new(plan.seed), Guarded::new(2 << 20));
+        LONG.into_iter().try_for_each(|len| long_lists(len, &mut random, &mut memory, kind))
     });
     tally.run(
         "mb_has_coeffs, flattened MbCoeffs",
@@ -49,6 +64,19 @@ fn lists(len: usize, random: &mut Random, memory: &mut Guarded, kind: &mut Kind)
             same(kind, "several set", list, true)?;
             list.fill(0);
         }
+    }
+    Ok(())
+}
+
+/// All 0, then one set at the first place, at the last, and at some between.
+fn long_lists(len: usize, random: &mut Random, memory: &mut Guarded, kind: &mut Kind) -> Result<(), String> {
+    let list = memory.lend(random.one_of(&SIDES), &vec![0; len]);
+    same(kind, "no number set", list, false)?;
+    let some: [usize; 8] = std::array::from_fn(|_| random.below(len));
+    for place in [0, len / 2, len - 1].into_iter().chain(some) {
+        list[place] = random.one_of(&SET);
+        same(kind, "one number set", list, true)?;
+        list[place] = 0;
     }
     Ok(())
 }
@@ -122,13 +150,20 @@ fn same(kind: &mut Kind, class: &str, list: &[i16], expected: bool) -> Result<()
 
 fn check(list: &[i16], expected: bool) -> Result<(), String> {
     let what = format_args!("  mb_has_coeffs on a list of {} numbers", list.len());
+    let before = list.to_vec();
     let answer = guard::calling(&what, || ffi::mb_has_coeffs(list));
-    if answer == expected {
+    if answer == expected && list == before {
         return Ok(());
     }
-    let set: Vec<(usize, i16)> = list.iter().copied().enumerate().filter(|(_, number)| *number != 0).collect();
+    let left = if list == before { String::new() } else { format!(", and leaves it all 0 but {:?}", set(list)) };
     Err(format!(
-        "mb_has_coeffs on a list of {} numbers, all 0 but {set:?} (place, number): expected {expected}, library {answer}",
-        list.len()
+        "mb_has_coeffs on a list of {} numbers, all 0 but {:?} (place, number): expected {expected}, library {answer}{left}",
+        list.len(),
+        set(&before)
     ))
+}
+
+/// The numbers of a list that are not 0, with their places.
+fn set(list: &[i16]) -> Vec<(usize, i16)> {
+    list.iter().copied().enumerate().filter(|(_, number)| *number != 0).collect()
 }

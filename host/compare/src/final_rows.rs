@@ -44,7 +44,8 @@ pub fn draw(random: &mut Random, calls: &mut Calls) -> Result<(), String> {
 
 fn any_arguments(random: &mut Random) -> (Layout, usize) {
     const SIZES: [usize; 12] = [0, 1, 2, 3, 80, 1023, 1024, 1025, 65_536, 1 << 32, 1 << 63, usize::MAX];
-    let (columns, rows) = (random.one_of(&SIZES), random.one_of(&SIZES));
+    let mut size = || if random.below(4) == 0 { 1 + random.below(1024) } else { random.one_of(&SIZES) };
+    let (columns, rows) = (size(), size());
     let layout = any_strides(columns, rows, random);
     let n = columns.saturating_mul(rows);
     let any = random.below(n.saturating_add(2).min(1 << 21));

@@ -12,7 +12,7 @@ use std::panic;
 
 const LONGEST: usize = 20;
 /// What the adjustment and the numbers beside it hold before a call.
-const UNTOUCHED: i32 = 0x5A5A_5A5A;
+pub const UNTOUCHED: i32 = 0x5A5A_5A5A;
 
 const ADJUST_CLASSES: [&str; 3] = ["outer taps", "no outer taps", "refused"];
 const SIMPLE_CLASSES: [&str; 5] =
@@ -31,7 +31,8 @@ const NORMAL_CLASSES: [&str; 11] = [
     "variance one above",
 ];
 
-const ENTRIES: [(&str, &[&str], KernelOf); 4] = [
+/// The C functions, their classes, and how each is drawn.
+pub const ENTRIES: [(&str, &[&str], KernelOf); 4] = [
     ("common_adjust", &ADJUST_CLASSES, |_, random| Kernel::Adjust(random.below(2) == 1)),
     ("simple_segment", &SIMPLE_CLASSES, |taps, random| Kernel::Simple(Limits::near(taps, random).edge)),
     ("subblock_filter", &NORMAL_CLASSES, |taps, random| Kernel::Subblock(Limits::near(taps, random))),
@@ -70,7 +71,7 @@ pub fn drawer() -> Draw {
 }
 
 /// Chooses a kernel and its limits for the samples p3 to q3.
-type KernelOf = fn(&[u8; 8], &mut Random) -> Kernel;
+pub type KernelOf = fn(&[u8; 8], &mut Random) -> Kernel;
 
 /// Every base from 0 to past the end and near large powers of 2, on every length. Where the library must refuse, the
 /// Rust panics.
@@ -111,11 +112,43 @@ pub enum Kernel {
 }
 
 impl Kernel {
-    fn width(&self) -> usize {
+    pub fn width(&self) -> usize {
         match self {
             Kernel::Adjust(_) | Kernel::Simple(_) => 4,
             Kernel::Subblock(_) | Kernel::Macroblock(_) => 8,
         }
+    }
+
+    /// Where the window fits. Otherwise it panics.
+    pub fn call_rust(&self, seg: &mut [u8], base: usize, adjustment: &mut i32) {
+        match *self {
+            Kernel::Adjust(outer) => *adjustment = loop_filter::common_adjust(outer, seg, base),
+            Kernel::Simple(edge) => loop_filter::simple_segment(edge, seg, base),
+            Kernel::Subblock(Limits { threshold, interior, edge }) => {
+                loop_filter::subblock_filter(threshold, interior, edge, seg, base)
+            }
+            Kernel::Macroblock(Limits { threshold, interior, edge }) => {
+                loop_filter::mb_filter(threshold, interior, edge, seg, base)
+            }
+        }
+    }
+
+    pub fn call_library(&self, seg: &mut [u8], base: usize, adjustment: &mut i32) -> u8 {
+        match *self {
+            Kernel::Adjust(outer) => ffi::common_adjust(outer, seg, base, adjustment),
+            Kernel::Simple(edge) => ffi::simple_segment(edge, seg, base),
+            Kernel::Subblock(Limits { threshold, interior, edge }) => {
+                ffi::subblock_filter(threshold, interior, edge, seg, base)
+            }
+            Kernel::Macroblock(Limits { threshold, interior, edge }) => {
+                ffi::mb_filter(threshold, interior, edge, seg, base)
+            }
+        }
+    }
+
+    /// Whether the window fits into a slice of `len` bytes.
+    pub fn fits(&self, len: usize, base: usize) -> bool {
+        base.checked_add(self.width()).is_some_and(|end| end <= len)
     }
 
     fn simpler(&self) -> Vec<Kernel> {
@@ -295,43 +328,14 @@ impl Case {
     }
 
     fn fits(&self) -> bool {
-        let end = self.base.checked_add(self.kernel.width());
-        end.is_some_and(|end| end <= self.seg.len)
-    }
-
-    fn call_rust(&self, seg: &mut [u8], adjustment: &mut i32) {
-        let base = self.base;
-        match self.kernel {
-            Kernel::Adjust(outer) => *adjustment = loop_filter::common_adjust(outer, seg, base),
-            Kernel::Simple(edge) => loop_filter::simple_segment(edge, seg, base),
-            Kernel::Subblock(Limits { threshold, interior, edge }) => {
-                loop_filter::subblock_filter(threshold, interior, edge, seg, base)
-            }
-            Kernel::Macroblock(Limits { threshold, interior, edge }) => {
-                loop_filter::mb_filter(threshold, interior, edge, seg, base)
-            }
-        }
-    }
-
-    fn call_library(&self, seg: &mut [u8], adjustment: &mut i32) -> u8 {
-        let base = self.base;
-        match self.kernel {
-            Kernel::Adjust(outer) => ffi::common_adjust(outer, seg, base, adjustment),
-            Kernel::Simple(edge) => ffi::simple_segment(edge, seg, base),
-            Kernel::Subblock(Limits { threshold, interior, edge }) => {
-                ffi::subblock_filter(threshold, interior, edge, seg, base)
-            }
-            Kernel::Macroblock(Limits { threshold, interior, edge }) => {
-                ffi::mb_filter(threshold, interior, edge, seg, base)
-            }
-        }
+        self.kernel.fits(self.seg.len, self.base)
     }
 
     /// The Rust's answer; refusal 4 and nothing written where its window does not fit.
     fn rust(&self) -> Answer {
         let mut answer = Answer { refusal: 0, adjustment: [UNTOUCHED; 3], seg: self.seg };
         if self.fits() {
-            self.call_rust(&mut answer.seg.bytes[..self.seg.len], &mut answer.adjustment[1]);
+            self.kernel.call_rust(&mut answer.seg.bytes[..self.seg.len], self.base, &mut answer.adjustment[1]);
         } else {
             answer.refusal = rules::NO_WINDOW;
         }
@@ -342,7 +346,7 @@ impl Case {
         let lent = memory.lend(side, self.seg.get());
         let mut adjustment = [UNTOUCHED; 3];
         let what = format_args!("{self}\n  with {side}");
-        let refusal = guard::calling(&what, || self.call_library(lent, &mut adjustment[1]));
+        let refusal = guard::calling(&what, || self.kernel.call_library(lent, self.base, &mut adjustment[1]));
         Answer { refusal, adjustment, seg: Slice::of(lent) }
     }
 
@@ -350,8 +354,8 @@ impl Case {
         let hook = panic::take_hook();
         panic::set_hook(Box::new(|_| ()));
         let mut seg = self.seg;
-        let outcome =
-            panic::catch_unwind(panic::AssertUnwindSafe(|| self.call_rust(&mut seg.bytes[..self.seg.len], &mut 0)));
+        let seg = &mut seg.bytes[..self.seg.len];
+        let outcome = panic::catch_unwind(panic::AssertUnwindSafe(|| self.kernel.call_rust(seg, self.base, &mut 0)));
         panic::set_hook(hook);
         outcome.is_err()
     }
@@ -480,13 +484,13 @@ pub fn eight(window: &[u8]) -> [u8; 8] {
 }
 
 /// The inner `width` of eight samples.
-fn middle(taps: &[u8; 8], width: usize) -> &[u8] {
+pub fn middle(taps: &[u8; 8], width: usize) -> &[u8] {
     let first = (8 - width) / 2;
     &taps[first..first + width]
 }
 
 /// Samples p3 to q3: any, extreme, or within a spread and with one or two steps between them.
-fn window(random: &mut Random) -> [u8; 8] {
+pub fn window(random: &mut Random) -> [u8; 8] {
     const EXTREMES: [u8; 10] = [0, 1, 2, 64, 127, 128, 129, 253, 254, 255];
     match random.below(8) {
         0 => [0; 8].map(|_| random.byte()),

@@ -1,6 +1,7 @@
 //! The level of a macroblock in both passes, under random and extreme settings: every mode, reference and inter mode
-//! up to a few above the last that stands for something, and segments below and above 4.
+//! up to a few above the last that stands for something, and segments below and above 4; and every byte in place of each.
 
+use crate::call::Pass;
 use crate::pictures::config;
 use crate::shrink::{Cases, shrink, smaller_bytes};
 use crate::soak::Calls;
@@ -45,6 +46,12 @@ pub fn compare(plan: &Plan, tally: &mut Tally) {
             each_byte_pair(|segment, mode| key(*config, segment, mode).compare(kind))
         })
     });
+    let few = if plan.long { 200 } else { 6 };
+    for (name, classes, pass) in [("", &KEY_CLASSES[..], Pass::Key), ("_inter", &INTER_CLASSES[..], Pass::Inter)] {
+        tally.run(&format!("calculate_mb_filter_level{name}, every byte"), classes, |kind| {
+            each_settings(plan, few, kind, |config, kind| every_byte(*config, pass, kind))
+        });
+    }
     tally.run("calculate_mb_filter_level_inter", &INTER_CLASSES, |kind| {
         each_settings(plan, rounds, kind, |config, kind| {
             each_byte_pair(|segment, mode| {
@@ -58,6 +65,27 @@ pub fn compare(plan: &Plan, tally: &mut Tally) {
             })
         })
     });
+}
+
+/// Every byte as the segment and as the mode, and in the inter pass as the reference and as the inter mode, beside usual
+/// bytes; and every byte as all three that 6 judges.
+fn every_byte(config: FrameFilterConfig, pass: Pass, kind: &mut Kind) -> Result<(), String> {
+    let usual = |bound: usize, byte: u8| byte % bound as u8;
+    for byte in 0..=255u8 {
+        for other in 0..8 {
+            let (reference, inter_mode) = (usual(4, other), usual(6, other));
+            let inter = |reference, inter_mode| (pass == Pass::Inter).then_some(Inter { reference, inter_mode });
+            let case = Case { config, segment: other, mode: usual(5, other), inter: inter(reference, inter_mode) };
+            Case { segment: byte, ..case }.compare(kind)?;
+            Case { mode: byte, ..case }.compare(kind)?;
+            if pass == Pass::Inter {
+                Case { inter: inter(byte, inter_mode), ..case }.compare(kind)?;
+                Case { inter: inter(reference, byte), ..case }.compare(kind)?;
+                Case { mode: byte, inter: inter(byte, byte), ..case }.compare(kind)?;
+            }
+        }
+    }
+    Ok(())
 }
 
 /// A call of each under any settings. One byte in eight is any.

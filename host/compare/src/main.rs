@@ -7,6 +7,7 @@
 mod call;
 mod coefficients;
 mod final_rows;
+mod grids;
 mod guard;
 mod halting;
 mod kernels;
@@ -21,8 +22,10 @@ mod refusals;
 mod search;
 mod settings;
 mod shrink;
+mod slices;
 mod smaller_call;
 mod soak;
+mod sources;
 mod tally;
 mod windows;
 
@@ -31,8 +34,8 @@ use std::path::PathBuf;
 use std::process::ExitCode;
 use tally::Tally;
 
-const USAGE: &str = "usage: compare [--long] [--seed NUMBER] [--only MODULE] [--film DIRECTORY]
-       compare --soak SECONDS [--seed NUMBER]";
+const USAGE: &str = "usage: compare [--patience SECONDS] [--long] [--seed NUMBER] [--only MODULE] [--film DIRECTORY]
+       compare [--patience SECONDS] --soak SECONDS [--seed NUMBER]";
 
 type Comparison = fn(&Plan, &mut Tally);
 
@@ -41,14 +44,17 @@ const MODULES: &[(&str, Comparison)] = &[
     ("limits", limits::compare),
     ("kernels", kernels::compare),
     ("windows", windows::compare),
+    ("slices", slices::compare),
     ("levels", levels::compare),
     ("coefficients", coefficients::compare),
     ("passes", passes::compare),
+    ("grids", grids::compare),
     ("refusals", refusals::compare),
     ("halting", halting::compare),
     ("final_rows", final_rows::compare),
     ("film", recorded::compare),
     ("search", search::compare),
+    ("sources", sources::compare),
 ];
 
 /// How much to compare.
@@ -83,14 +89,26 @@ impl Plan {
     }
 }
 
+/// The arguments after `--patience SECONDS`, which says how long a smaller input is looked for.
+fn after_patience<'a, 'b>(arguments: &'a [&'b str]) -> &'a [&'b str] {
+    if let ["--patience", seconds, rest @ ..] = arguments
+        && let Ok(seconds) = seconds.parse()
+    {
+        shrink::set_patience(seconds);
+        return rest;
+    }
+    arguments
+}
+
 fn main() -> ExitCode {
     let arguments: Vec<String> = std::env::args().skip(1).collect();
     let arguments: Vec<&str> = arguments.iter().map(String::as_str).collect();
+    let arguments = after_patience(&arguments);
     guard::report_faults();
-    if let Some((seconds, seed)) = soak::asked(&arguments) {
+    if let Some((seconds, seed)) = soak::asked(arguments) {
         return soak::run(seconds, seed);
     }
-    let Some(plan) = Plan::from_arguments(&arguments) else {
+    let Some(plan) = Plan::from_arguments(arguments) else {
         eprintln!("{USAGE}");
         return ExitCode::from(2);
     };

@@ -1,4 +1,4 @@
-//! `u2s` on every byte; `clamp_s8` and `s2u` near 0 and at the ends of i32, in the long run on every i32.
+//! `u2s` on every byte; `clamp_s8` and `s2u` near 0, at the ends of i32 and all over it, in the long run on every i32.
 
 use crate::soak::Calls;
 use crate::tally::{Kind, Tally};
@@ -8,6 +8,7 @@ use rules::random::Random;
 use std::fmt::Display;
 
 const NEAR: u32 = 70_000;
+const SPREAD: u32 = 2_000;
 const LIMITED: [&str; 3] = ["below -128", "within", "above 127"];
 
 pub fn compare(plan: &Plan, tally: &mut Tally) {
@@ -53,6 +54,11 @@ fn signed(plan: &Plan, kind: &mut Kind, compare: impl Fn(i32) -> Result<(), Stri
         });
     }
     magnitudes(kind, 0..=NEAR, &compare)?;
+    // Others at a distance of at most 2 SPREAD from the last, so that every higher bit and every low byte occurs.
+    let mut random = Random::new(plan.seed);
+    let others =
+        (NEAR..largest - NEAR).step_by(SPREAD as usize).map(|first| first + random.below(SPREAD as usize) as u32);
+    magnitudes(kind, others, &compare)?;
     magnitudes(kind, largest - NEAR..=largest, &compare)
 }
 

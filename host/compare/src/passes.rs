@@ -195,7 +195,6 @@ pub fn drawer(pass: Pass) -> Draw {
 
 /// The largest grids that 1 accepts and the largest strides that 2 accepts, halted at random and whole.
 fn largest(plan: &Plan, pass: Pass, kind: &mut Kind) -> Result<(), String> {
-    let tight = |columns, rows| Layout { columns, rows, y_stride: 16 * columns, uv_stride: 8 * columns };
     let wide = |columns, rows| Layout { columns, rows, y_stride: 65_536, uv_stride: 65_536 };
     let mut layouts = vec![
         tight(1024, 1),
@@ -210,29 +209,45 @@ fn largest(plan: &Plan, pass: Pass, kind: &mut Kind) -> Result<(), String> {
     if plan.long {
         layouts.extend([tight(1024, 1024), wide(1, 128)]);
     }
-    let mut random = Random::new(plan.seed);
-    let mut memory = Memory::new();
-    for layout in layouts {
-        let mut whole = on_layout(pass, layout, &mut random);
-        whole.config.loop_filter_level |= 16;
-        whole.config.segmentation_enabled = false;
-        let n = whole.macroblocks();
-        let unbroken = whole.unbroken();
-        let mut halted = whole.clone();
-        for next in [random.below(n + 1), n] {
-            halted.allowance = next - halted.start;
-            let done = Done { count: halted.allowance, next };
-            kind.add_cases(1);
-            kind.add_class("halted", (next < n) as u64);
-            let planes = stepped_to(&whole, next);
-            halted.planes = same(&halted, Outcome::new(Ok(done), planes), &mut memory)?;
-            halted.start = next;
-        }
-        kind.add_cases(1);
-        kind.add_class("filtered", (unbroken != whole.planes) as u64);
-        same(&whole, Outcome::new(Ok(Done { count: n, next: n }), unbroken), &mut memory)?;
+    let (mut random, mut memory) = (Random::new(plan.seed), Memory::new());
+    layouts.into_iter().try_for_each(|layout| {
+        let whole = filtering(pass, layout, &mut random);
+        let halt = random.below(whole.macroblocks() + 1);
+        let filtered = halted_and_whole(&whole, halt, &mut memory)?;
+        kind.add_cases(3);
+        kind.add_class("halted", (halt < whole.macroblocks()) as u64);
+        kind.add_class("filtered", filtered as u64);
+        Ok(())
+    })
+}
+
+/// A grid without samples outside it.
+pub fn tight(columns: usize, rows: usize) -> Layout {
+    Layout { columns, rows, y_stride: 16 * columns, uv_stride: 8 * columns }
+}
+
+/// A whole picture with a level above 0.
+pub fn filtering(pass: Pass, layout: Layout, random: &mut Random) -> Call {
+    let mut whole = on_layout(pass, layout, random);
+    whole.config.loop_filter_level |= 16;
+    whole.config.segmentation_enabled = false;
+    whole
+}
+
+/// A whole picture in two calls, the first of which ends at `halt`, and in one. Answers whether its pass changes it.
+pub fn halted_and_whole(whole: &Call, halt: usize, memory: &mut Memory) -> Result<bool, String> {
+    let (n, unbroken) = (whole.macroblocks(), whole.unbroken());
+    let mut halted = whole.clone();
+    for next in [halt, n] {
+        halted.allowance = next - halted.start;
+        let done = Done { count: halted.allowance, next };
+        let planes = if next == n { unbroken.clone() } else { stepped_to(whole, next) };
+        halted.planes = same(&halted, Outcome::new(Ok(done), planes), memory)?;
+        halted.start = next;
     }
-    Ok(())
+    let filtered = unbroken != whole.planes;
+    same(whole, Outcome::new(Ok(Done { count: n, next: n }), unbroken), memory)?;
+    Ok(filtered)
 }
 
 /// What the steps before `next` leave of a picture: the Rust's pass over the rows that they fill, then its steps in

@@ -51,7 +51,7 @@ fn read_all(directory: &Path) -> Result<Vec<Stream>, String> {
     paths.sort();
     let stream = |path: &Path| {
         let bytes = fs::read(path).map_err(|error| unreadable(path, error))?;
-        let frames = film::read(&bytes).ok_or(format!("{} is no film", path.display()))?;
+        let frames = film::read(&bytes).map_err(|fault| format!("{}: {fault}", path.display()))?;
         let name = path.file_stem().expect("a file").to_string_lossy().into_owned();
         Ok(Stream { name, frames })
     };

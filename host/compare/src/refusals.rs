@@ -100,6 +100,10 @@ impl Changes {
             self.add(refused(rules::WRONG_LENGTH), move |call, _| call.lists[list].push(0));
             self.add(refused(rules::WRONG_LENGTH), move |call, _| _ = call.lists[list].pop());
             self.add(refused(rules::WRONG_LENGTH), move |call, _| call.lists[list].clear());
+            for more in [256, 65_536] {
+                let longer = move |call: &mut Call, _: &mut Random| call.lists[list].extend(vec![0; more]);
+                self.add(refused(rules::WRONG_LENGTH), longer);
+            }
             match largest {
                 255 => self.add(0, move |call, random| put(call, list, 255, random)),
                 _ => {

@@ -2,21 +2,22 @@
 //! the answers of all functions, the number of candidates, every scratch sample, and that nothing else moved.
 
 use crate::Plan;
-use crate::call::{Call, LARGEST, PASSES, Pass, Planes, SIDE, run_rust};
+use crate::call::{Call, LARGEST, PASSES, Pass, Planes, SIDE, Samples, run_rust};
 use crate::ffi::{self, Choice, Lists, Sought, Source};
 use crate::guard::{self, Guarded};
 use crate::pictures::picture;
 use crate::recorded;
 use crate::settings;
-use crate::soak::Draw;
+use crate::shrink::{Cases, shrink};
+use crate::soak::{Calls, Draw};
 use crate::tally::{Kind, Tally};
 use oracle::{InterFilterInfo, KeyframePlanes, SourcePlanes, loop_filter};
 use rules::random::Random;
 use std::fmt;
 
-/// What the out-parameters hold before a call.
-const NO_SUM: u64 = 0x5A5A_5A5A_5A5A_5A5A;
-const UNTOUCHED: Choice = Choice { level: 0x5A, sharpness: 0xA5, count: 0x5A5A_5A5A };
+/// What the out-parameters and the numbers beside them hold before a call.
+const NO_SUM: [u64; 3] = [0x5A5A_5A5A_5A5A_5A5A; 3];
+const UNTOUCHED: Out = Out { bytes: [0xA5; 5], count: [0x5A5A_5A5A; 3] };
 
 const SOUGHT: [Sought; 2] = [Sought::Params, Sought::Level];
 
@@ -45,47 +46,77 @@ const CLASSES: [&str; 18] = [
     "scratch outside the grid",
 ];
 
-const REFUSED: [&str; 7] =
-    ["refused 1", "refused 2", "refused 3", "refused 8", "refused 9", "refused 6", "not refused"];
+const REFUSED: [&str; 8] =
+    ["refused 1", "refused 2", "refused 3", "refused 8", "refused 9", "refused 6", "not refused", "zero grid"];
+const SUM_REFUSED: [&str; 6] =
+    ["sum refused 1", "sum refused 2", "sum refused 3", "sum refused 8", "sum refused 9", "sum not refused"];
 
 pub fn compare(plan: &Plan, tally: &mut Tally) {
     for pass in PASSES {
         let name = Sought::Params.entry(pass);
         tally.run(&format!("{name}, random pictures"), &CLASSES, |kind| pictures(plan, pass, kind));
-        tally.run(&format!("{name}, damaged"), &REFUSED, |kind| damaged(plan, pass, kind));
+        tally
+            .run(&format!("{name}, damaged"), &[&REFUSED[..], &SUM_REFUSED].concat(), |kind| damaged(plan, pass, kind));
     }
     tally.run("search on kept film", &["key", "inter", "level 0", "level above 0"], |kind| on_film(plan, kind));
 }
 
 /// One call of a search. The start and the allowance of the pass are not used.
 #[derive(Clone)]
-struct Search {
-    call: Call,
-    source: Planes,
-    width: usize,
-    height: usize,
-    strides: [usize; 3],
-    scratch: Planes,
+pub struct Search {
+    pub call: Call,
+    pub source: Planes,
+    pub width: usize,
+    pub height: usize,
+    pub strides: [usize; 3],
+    pub scratch: Planes,
+}
+
+/// The out-parameters of a search among their neighbours in memory: level and sharpness, and the count.
+#[derive(Clone, Copy, Debug, PartialEq)]
+struct Out {
+    bytes: [u8; 5],
+    count: [usize; 3],
+}
+
+impl Out {
+    fn of(choice: Choice) -> Out {
+        let mut out = UNTOUCHED;
+        (out.bytes[1], out.bytes[3], out.count[1]) = (choice.level, choice.sharpness, choice.count);
+        out
+    }
+
+    fn without_sharpness(mut self) -> Out {
+        self.bytes[3] = UNTOUCHED.bytes[3];
+        self
+    }
 }
 
 #[derive(PartialEq)]
-struct Outcome {
-    /// Of the error sum: the number of the refusal, and the sum.
-    sum: (u8, u64),
-    answer: u8,
-    choice: Choice,
+pub struct Outcome {
+    /// Of the error sum: the number of the refusal, and the sum between its neighbours in memory.
+    sum: (u8, [u64; 3]),
+    pub answer: u8,
+    out: Out,
     scratch: Planes,
     others_stay: bool,
     /// `select_filter_level` answers and leaves the same.
     alike: bool,
 }
 
-struct Memory {
+impl Outcome {
+    pub fn choice(&self) -> Choice {
+        Choice { level: self.out.bytes[1], sharpness: self.out.bytes[3], count: self.out.count[1] }
+    }
+}
+
+/// What is lent, each slice against unreadable pages.
+pub struct Memory {
     lent: [Guarded; 14],
 }
 
 impl Memory {
-    fn new() -> Memory {
+    pub fn new() -> Memory {
         Memory { lent: std::array::from_fn(|_| Guarded::new(1 << 16)) }
     }
 }
@@ -101,7 +132,7 @@ impl Search {
     }
 
     /// Its numbers.
-    fn source(&self) -> rules::Source {
+    pub fn source(&self) -> rules::Source {
         let [y_stride, uv_stride, _] = self.strides;
         let lengths = self.source.each_ref().map(Vec::len);
         rules::Source { width: self.width, height: self.height, y_stride, uv_stride, lengths }
@@ -121,17 +152,24 @@ impl Search {
         }
     }
 
+    /// What the error sum must answer and leave.
+    pub fn expected_sum(&self) -> (u8, [u64; 3]) {
+        let mut out = NO_SUM;
+        match self.refusal_of(&[&self.call.planes]) {
+            0 => {
+                out[1] = self.sum(&self.call.rust_planes());
+                (0, out)
+            }
+            number => (number, out),
+        }
+    }
+
     fn expected(&self) -> Outcome {
-        let sum = match self.refusal_of(&[&self.call.planes]) {
-            0 => (0, self.sum(&self.call.rust_planes())),
-            number => (number, NO_SUM),
-        };
-        let answer = self.refusal();
-        let mut outcome =
-            Outcome { sum, answer, choice: UNTOUCHED, scratch: self.scratch.clone(), others_stay: true, alike: true };
+        let (sum, answer, scratch) = (self.expected_sum(), self.refusal(), self.scratch.clone());
+        let mut outcome = Outcome { sum, answer, out: UNTOUCHED, scratch, others_stay: true, alike: true };
         if answer == 0 {
             let (level, sharpness, count) = self.by_the_rule();
-            outcome.choice = Choice { level, sharpness, count };
+            outcome.out = Out::of(Choice { level, sharpness, count });
             let chosen = self.candidate(level, sharpness);
             self.copy_grid([&chosen.y, &chosen.u, &chosen.v], &mut outcome.scratch);
         }
@@ -149,7 +187,7 @@ impl Search {
     }
 
     /// What the Rust's pass makes of the reconstruction. Level 0 leaves it.
-    fn candidate(&self, level: u8, sharpness: u8) -> KeyframePlanes {
+    pub fn candidate(&self, level: u8, sharpness: u8) -> KeyframePlanes {
         let mut planes = self.call.rust_planes();
         if level > 0 && self.has_grid() && self.right_lengths() {
             let config = self.call.config.with_loop_filter_level(level).with_sharpness_level(sharpness);
@@ -159,7 +197,7 @@ impl Search {
     }
 
     /// The Rust's sum. It is 0 where the source has no samples, where the Rust may panic.
-    fn sum(&self, planes: &KeyframePlanes) -> u64 {
+    pub fn sum(&self, planes: &KeyframePlanes) -> u64 {
         if self.width == 0 || self.height == 0 {
             return 0;
         }
@@ -173,7 +211,7 @@ impl Search {
     }
 
     /// Document 01, Search: level, sharpness and count. Every sum is the Rust's.
-    fn by_the_rule(&self) -> (u8, u8, usize) {
+    pub fn by_the_rule(&self) -> (u8, u8, usize) {
         rules::choice(self.call.config.sharpness_level, |level, sharpness| self.sum(&self.candidate(level, sharpness)))
     }
 
@@ -190,47 +228,75 @@ impl Search {
         Some(loop_filter::select_filter_params(&planes, modes, flags, config, &source, inter))
     }
 
+    /// The source with planes lent.
+    fn lent_source<'a>(&self, planes: [&'a [u8]; 3]) -> Source<'a> {
+        let [y_stride, uv_stride, _] = self.strides;
+        Source { planes, width: self.width, height: self.height, y_stride, uv_stride }
+    }
+
+    /// Calls the error sum on planes and a source that are lent.
+    fn call_sum(&self, planes: [&[u8]; 3], source: &Source) -> (u8, [u64; 3]) {
+        let mut out = NO_SUM;
+        let answer = guard::calling(self, || ffi::reconstruction_ssd(planes, &self.call.layout, source, &mut out[1]));
+        (answer, out)
+    }
+
+    /// What the library's error sum answers and leaves, and whether all that is lent stays.
+    fn library_sum(&self, memory: &mut Memory) -> ((u8, [u64; 3]), bool) {
+        let before = [&self.call.planes[..], &self.source].concat();
+        let mut lent = memory.lent.iter_mut().zip(&before).map(|(memory, bytes)| &*memory.lend(self.call.side, bytes));
+        let lent: [&[u8]; 6] = std::array::from_fn(|_| lent.next().expect("six slices"));
+        let [y, u, v, sy, su, sv] = lent;
+        let sum = self.call_sum([y, u, v], &self.lent_source([sy, su, sv]));
+        (sum, lent.iter().zip(&before).all(|(now, before)| **now == before[..]))
+    }
+
+    /// Compares the error sum alone, and answers it.
+    pub fn same_sum(&self, memory: &mut Memory) -> Result<(u8, u64), String> {
+        let expected = (self.expected_sum(), true);
+        let library = self.library_sum(memory);
+        if library == expected {
+            return Ok((expected.0.0, expected.0.1[1]));
+        }
+        Err(format!(
+            "\n{self}\n  expected: {expected:?}\n  library:  {library:?} (refusal, the sum between its neighbours, whether what is lent stays)"
+        ))
+    }
+
     fn library(&self, memory: &mut Memory) -> Outcome {
         let before = [&self.call.planes[..], &self.source, &self.call.lists, &self.scratch].concat();
         let mut lent = memory.lent.iter_mut().zip(&before).map(|(memory, bytes)| memory.lend(self.call.side, bytes));
         let lent: [&mut [u8]; 14] = std::array::from_fn(|_| lent.next().expect("fourteen slices"));
         let [y, u, v, sy, su, sv, modes, segments, flags, references, inter_modes, ty, tu, tv] = lent;
-        let source = Source {
-            planes: [&*sy, &*su, &*sv],
-            width: self.width,
-            height: self.height,
-            y_stride: self.strides[0],
-            uv_stride: self.strides[1],
-        };
+        let source = self.lent_source([&*sy, &*su, &*sv]);
         let lists = Lists { modes, segments, flags, references, inter_modes };
         let Call { pass, layout, config, .. } = &self.call;
         let (planes, pass) = ([&*y, &*u, &*v], *pass);
         let search = ffi::Search { pass, planes, layout, source: &source, lists: &lists, config };
-        let mut sum = (0, NO_SUM);
-        sum.0 = guard::calling(self, || ffi::reconstruction_ssd(planes, layout, &source, &mut sum.1));
+        let sum = self.call_sum(planes, &source);
         let answers = SOUGHT.map(|sought| {
             let scratch = [&mut *ty, &mut *tu, &mut *tv];
             scratch.into_iter().zip(&self.scratch).for_each(|(lent, before)| lent.copy_from_slice(before));
-            let mut choice = UNTOUCHED;
+            let mut out = UNTOUCHED;
+            let ([_, level, _, sharpness, _], [_, count, _]) = (&mut out.bytes, &mut out.count);
             let scratch = [&mut *ty, &mut *tu, &mut *tv];
-            let answer = guard::calling(self, || ffi::select(&search, sought, scratch, &mut choice));
-            (answer, choice, [ty.to_vec(), tu.to_vec(), tv.to_vec()])
+            let answer = guard::calling(self, || ffi::select_into(&search, sought, scratch, level, sharpness, count));
+            (answer, out, [ty.to_vec(), tu.to_vec(), tv.to_vec()])
         });
         // The level alone: the same answer, and the same scratch planes once more.
-        let [(answer, choice, scratch), level_alone] = answers;
-        let without_sharpness = Choice { sharpness: UNTOUCHED.sharpness, ..choice };
-        let alike = level_alone == (answer, without_sharpness, scratch.clone());
+        let [(answer, out, scratch), level_alone] = answers;
+        let alike = level_alone == (answer, out.without_sharpness(), scratch.clone());
         let Lists { modes, segments, flags, references, inter_modes } = lists;
         let others = [y, u, v, sy, su, sv, modes, segments, flags, references, inter_modes];
         let others_stay = others.iter().zip(&before).all(|(now, before)| **now == before[..]);
-        Outcome { sum, answer, choice, scratch, others_stay, alike }
+        Outcome { sum, answer, out, scratch, others_stay, alike }
     }
 
     /// Compares, and answers what is expected.
-    fn same(&self, memory: &mut Memory) -> Result<Outcome, String> {
+    pub fn same(&self, memory: &mut Memory) -> Result<Outcome, String> {
         let expected = self.expected();
         if expected.answer == 0 {
-            let rule = (expected.choice.level, expected.choice.sharpness);
+            let rule = (expected.choice().level, expected.choice().sharpness);
             if self.rust().is_some_and(|rust| rust != rule) {
                 return Err(format!("\n{self}\n  the rule: {rule:?}\n  the Rust: {:?}", self.rust()));
             }
@@ -239,41 +305,26 @@ impl Search {
         if library == expected {
             return Ok(expected);
         }
-        let smallest = self.smallest(memory);
+        let smallest = shrink(self.clone(), Search::simpler, |search| search.library(memory) != search.expected());
         let (expected, library) = (smallest.expected(), smallest.library(memory));
         Err(format!("\n{smallest}\n  expected: {expected}\n  library: {library}"))
     }
 
-    /// The simplest settings and source size found that still differ.
-    fn smallest(&self, memory: &mut Memory) -> Search {
-        let mut found = self.clone();
-        loop {
-            let configs = settings::simpler(&found.call.config).into_iter();
-            let mut simpler: Vec<Search> =
-                configs.map(|config| Search { call: Call { config, ..found.call.clone() }, ..found.clone() }).collect();
-            for width in [found.width / 2, found.width.saturating_sub(1)] {
-                simpler.push(Search { width, ..found.clone() });
-            }
-            for height in [found.height / 2, found.height.saturating_sub(1)] {
-                simpler.push(Search { height, ..found.clone() });
-            }
-            simpler.retain(|s| (s.width, s.height, s.call.config) != (found.width, found.height, found.call.config));
-            match simpler.into_iter().find(|search| search.library(memory) != search.expected()) {
-                Some(search) => found = search,
-                None => return found,
-            }
-        }
+    /// Simpler settings and smaller sizes of the source.
+    fn simpler(&self) -> Cases<'_, Search> {
+        let configs = settings::simpler(&self.call.config).into_iter();
+        let configs = configs.map(|config| Search { call: Call { config, ..self.call.clone() }, ..self.clone() });
+        let smaller = |n: usize| [n / 2, n.saturating_sub(1)].into_iter().filter(move |smaller| *smaller < n);
+        let widths = smaller(self.width).map(|width| Search { width, ..self.clone() });
+        let heights = smaller(self.height).map(|height| Search { height, ..self.clone() });
+        Box::new(configs.chain(widths).chain(heights))
     }
 }
 
 impl fmt::Display for Outcome {
     fn fmt(&self, f: &mut fmt::Formatter<'_>) -> fmt::Result {
         let sums = self.scratch.each_ref().map(|plane| plane.iter().map(|sample| *sample as u64).sum::<u64>());
-        write!(
-            f,
-            "sum {:?}; refusal {}, {:?}, scratch planes that sum to {sums:?}",
-            self.sum, self.answer, self.choice
-        )?;
+        write!(f, "sum {:?}; refusal {}, {:?}, scratch planes that sum to {sums:?}", self.sum, self.answer, self.out)?;
         if !self.others_stay {
             write!(f, ", and something lent for reading has changed")?;
         }
@@ -285,13 +336,22 @@ impl fmt::Display for Search {
     fn fmt(&self, f: &mut fmt::Formatter<'_>) -> fmt::Result {
         writeln!(f, "  a search with the picture of\n{}", self.call)?;
         writeln!(f, "  source {} by {}, strides {:?}", self.width, self.height, self.strides)?;
-        write!(f, "  source {:?}\n  scratch lengths {:?}", self.source, self.scratch.each_ref().map(Vec::len))
+        for (samples, stride) in self.source.iter().zip(self.strides) {
+            writeln!(f, "  source: {}", Samples { samples, stride })?;
+        }
+        write!(f, "  scratch lengths {:?}", self.scratch.each_ref().map(Vec::len))
     }
 }
 
-/// A search that is not refused. The source is often what some level makes of the reconstruction.
+/// A search that is not refused, on a small picture. In the source some samples lie between rows.
 fn search(pass: Pass, random: &mut Random) -> Search {
     let call = picture(pass, 1 + random.below(3), 1 + random.below(3), random);
+    against_source(call, |row, random| row + random.one_of(&[0, 0, 1, 30]), random)
+}
+
+/// A search that is not refused. The source is often what some level makes of the reconstruction; its strides are
+/// chosen for the samples of a row.
+pub fn against_source(call: Call, stride: fn(usize, &mut Random) -> usize, random: &mut Random) -> Search {
     let layout = call.layout;
     let size = |side: usize, random: &mut Random| match random.below(12) {
         0 => 0,
@@ -299,9 +359,13 @@ fn search(pass: Pass, random: &mut Random) -> Search {
         _ => 1 + random.below(side),
     };
     let (width, height) = (size(16 * layout.columns, random), size(16 * layout.rows, random));
-    let scratch = call.planes.each_ref().map(|plane| plane.iter().map(|_| random.byte()).collect());
-    let more = [random.one_of(&[0, 0, 1, 30]), random.one_of(&[0, 0, 1, 30])];
-    let strides = [width + more[0], width.div_ceil(2) + more[1], width.div_ceil(2) + more[1]];
+    let scratch = std::array::from_fn(|plane| {
+        let (least, lent) = (layout.least_length(plane), call.planes[plane].len());
+        let length = random.one_of(&[least, lent, lent, least + 100]);
+        (0..length).map(|_| random.byte()).collect()
+    });
+    let (y_stride, uv_stride) = (stride(width, random), stride(width.div_ceil(2), random));
+    let strides = [y_stride, uv_stride, uv_stride];
     let mut search = Search { call, source: Default::default(), width, height, strides, scratch };
     let any = random.below(64) as u8;
     let level = random.one_of(&[0, 1, 2, 3, 61, 62, 61, 62, any, any, any, any]);
@@ -319,7 +383,7 @@ fn search(pass: Pass, random: &mut Random) -> Search {
     search
 }
 
-fn rounds<F>(plan: &Plan, rounds: usize, kind: &mut Kind, compare: F) -> Result<(), String>
+pub fn rounds<F>(plan: &Plan, rounds: usize, kind: &mut Kind, compare: F) -> Result<(), String>
 where
     F: Fn(&mut Random, &mut Memory, &mut Kind) -> Result<(), String> + Sync,
 {
@@ -348,15 +412,20 @@ pub fn drawer(pass: Pass) -> Draw {
     Box::new(move |random, calls| {
         let mut search = search(pass, random);
         (0..random.below(3)).for_each(|_| damage(&mut search, random));
-        let expected = search.same(&mut memory)?;
-        calls.add("reconstruction_ssd", expected.sum.0);
-        SOUGHT.iter().for_each(|sought| calls.add(sought.entry(pass), expected.answer));
-        Ok(())
+        draw(&search, &mut memory, calls)
     })
 }
 
+/// Compares a search and counts its calls.
+pub fn draw(search: &Search, memory: &mut Memory, calls: &mut Calls) -> Result<(), String> {
+    let (expected, pass) = (search.same(memory)?, search.call.pass);
+    calls.add("reconstruction_ssd", expected.sum.0);
+    SOUGHT.iter().for_each(|sought| calls.add(sought.entry(pass), expected.answer));
+    Ok(())
+}
+
 fn classify(search: &Search, outcome: &Outcome, kind: &mut Kind) {
-    let (Choice { level, sharpness, count }, config) = (outcome.choice, &search.call.config);
+    let (Choice { level, sharpness, count }, config) = (outcome.choice(), &search.call.config);
     let grid = |plane: usize| SIDE[plane] * search.call.layout.columns * SIDE[plane] * search.call.layout.rows;
     let classes = [
         ("level 0", level == 0),
@@ -367,7 +436,7 @@ fn classify(search: &Search, outcome: &Outcome, kind: &mut Kind) {
         ("normal filter", !config.simple),
         ("segmentation", config.segmentation_enabled),
         ("deltas", config.delta_enabled),
-        ("source equal to the reconstruction", search.width * search.height > 0 && outcome.sum == (0, 0)),
+        ("source equal to the reconstruction", search.width * search.height > 0 && outcome.sum.1[1] == 0),
         ("odd size", search.width % 2 == 1 || search.height % 2 == 1),
         ("width or height 0", search.width == 0 || search.height == 0),
         ("lists of wrong length", !search.right_lengths()),
@@ -388,11 +457,13 @@ fn damaged(plan: &Plan, pass: Pass, kind: &mut Kind) -> Result<(), String> {
         }
         let outcome = search.same(memory)?;
         kind.add_cases(1);
-        let class = match outcome.answer {
-            0 => "not refused",
-            number => REFUSED.into_iter().find(|class| class.ends_with(&format!(" {number}"))).expect("a class"),
+        let class = |number: u8| match number {
+            0 => String::from("not refused"),
+            number => format!("refused {number}"),
         };
-        kind.add_class(class, 1);
+        kind.add_class(&class(outcome.answer), 1);
+        kind.add_class("zero grid", (outcome.answer == 0 && !search.has_grid()) as u64);
+        kind.add_class(&format!("sum {}", class(outcome.sum.0)), 1);
         Ok(())
     })
 }
@@ -400,7 +471,7 @@ fn damaged(plan: &Plan, pass: Pass, kind: &mut Kind) -> Result<(), String> {
 fn damage(search: &mut Search, random: &mut Random) {
     let (plane, layout) = (random.below(3), search.call.layout);
     let shortened = |bytes: &mut Vec<u8>, least: usize| bytes.truncate(least.saturating_sub(1));
-    match random.below(9) {
+    match random.below(10) {
         0 => search.call.layout.columns = random.one_of(&[0, 1025, usize::MAX]),
         1 => search.call.layout.rows = random.one_of(&[0, 1025, usize::MAX]),
         2 => search.call.layout.y_stride = random.one_of(&[(16 * layout.columns.min(1024)).wrapping_sub(1), 65_537]),
@@ -411,19 +482,42 @@ fn damage(search: &mut Search, random: &mut Random) {
         }
         5 => search.width = random.one_of(&[0, 16 * layout.columns.min(1024) + 1, usize::MAX]),
         6 => search.height = random.one_of(&[0, 16 * layout.rows.min(1024) + 1, usize::MAX]),
-        7 if random.below(2) == 0 => search.strides[0] = random.one_of(&[search.width.wrapping_sub(1), 65_537]),
-        7 => {
-            let length = search.source[plane].len();
-            shortened(&mut search.source[plane], length);
+        7 => damage_source(search, random),
+        8 if random.yes() => (search.call.layout.columns, search.width) = (0, 0),
+        8 => (search.call.layout.rows, search.height) = (0, 0),
+        _ => damage_list(search, random),
+    }
+}
+
+/// A stride below the row or above the largest, or a plane one byte short.
+fn damage_source(search: &mut Search, random: &mut Random) {
+    let plane = random.below(3);
+    if random.yes() {
+        search.source[plane].pop();
+        return;
+    }
+    let (row, stride) = (search.source().visible(plane).0, search.strides[plane]);
+    let stride = random.one_of(&[row.wrapping_sub(1), 65_537, 1 << 32 | stride, usize::MAX]);
+    if plane == 0 {
+        search.strides[0] = stride;
+    } else {
+        (search.strides[1], search.strides[2]) = (stride, stride);
+    }
+}
+
+/// A byte that 6 refuses, or a list of wrong length, in which 6 is not judged.
+fn damage_list(search: &mut Search, random: &mut Random) {
+    let list = random.one_of(&[0, 3, 4]);
+    let (entries, bad) = (&mut search.call.lists[list], LARGEST[list] + 1);
+    match random.below(4) {
+        0 => {
+            let more = random.one_of(&[1, 1, 256, 65_536]);
+            entries.extend(vec![bad; more]);
         }
+        _ if entries.is_empty() => {}
         _ => {
-            let list = random.one_of(&[0, 3, 4]);
-            if random.below(3) == 0 {
-                // A list of wrong length, in which 6 is not judged.
-                search.call.lists[list].push(LARGEST[list] + 1);
-            } else if let Some(entry) = search.call.lists[list].last_mut() {
-                *entry = LARGEST[list] + 1;
-            }
+            let place = random.below(entries.len());
+            entries[place] = random.one_of(&[bad, 255]);
         }
     }
 }
@@ -440,7 +534,7 @@ fn on_film(plan: &Plan, kind: &mut Kind) -> Result<(), String> {
             let strides = [call.layout.y_stride, call.layout.uv_stride, call.layout.uv_stride];
             let scratch = call.planes.each_ref().map(|plane| vec![0; plane.len()]);
             let search = Search { source: call.unbroken(), call, width, height, strides, scratch };
-            let level = search.same(&mut memory)?.choice.level;
+            let level = search.same(&mut memory)?.choice().level;
             kind.add_cases(1);
             kind.add_class(if search.call.pass == Pass::Key { "key" } else { "inter" }, 1);
             kind.add_class(if level == 0 { "level 0" } else { "level above 0" }, 1);

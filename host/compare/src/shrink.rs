@@ -1,9 +1,14 @@
 //! Finds a smaller input that still differs.
 
+use std::sync::atomic::{AtomicU64, Ordering};
 use std::time::{Duration, Instant};
 
-/// How long a smaller input is looked for.
-const PATIENCE: Duration = Duration::from_secs(10);
+/// How many seconds a smaller input is looked for.
+static PATIENCE: AtomicU64 = AtomicU64::new(10);
+
+pub fn set_patience(seconds: u64) {
+    PATIENCE.store(seconds, Ordering::Relaxed);
+}
 
 /// Cases made one after the other, as they are asked for.
 pub type Cases<'a, C> = Box<dyn Iterator<Item = C> + 'a>;
@@ -11,9 +16,9 @@ pub type Cases<'a, C> = Box<dyn Iterator<Item = C> + 'a>;
 /// Takes the first simpler case that still differs, until none does or patience ends. Every simpler case must be
 /// smaller in some measure.
 pub fn shrink<C>(mut case: C, simpler: impl Fn(&C) -> Cases<C>, mut differs: impl FnMut(&C) -> bool) -> C {
-    let start = Instant::now();
+    let (start, patience) = (Instant::now(), Duration::from_secs(PATIENCE.load(Ordering::Relaxed)));
     loop {
-        let smaller = simpler(&case).take_while(|_| start.elapsed() < PATIENCE).find(&mut differs);
+        let smaller = simpler(&case).take_while(|_| start.elapsed() < patience).find(&mut differs);
         match smaller {
             Some(smaller) => case = smaller,
             None => return case,

@@ -6,9 +6,15 @@ use crate::shrink::{Cases, shrink, smaller_bytes};
 use entries::Layout;
 use std::ops::Range;
 
+/// The largest grid that is made smaller. The Rust's steps take a time that grows by the square of it.
+const LARGEST: usize = 10_000;
+
 /// Describes the smallest call found that differs, what was expected of it and what came. `expected` and `library` are
 /// of the call itself.
 pub fn difference(call: &Call, expected: &Outcome, library: &Outcome, memory: &mut Memory) -> String {
+    if call.rule().is_ok() && call.macroblocks() > LARGEST {
+        return format!("\n{call}\n{}", expected.against(library, call));
+    }
     if !call.differs(memory) {
         return format!("\n{call}\n{}\n  (but not when called again)", expected.against(library, call));
     }

@@ -2,33 +2,37 @@
 
 use crate::call::PASSES;
 use crate::tally::grouped;
-use crate::{coefficients, final_rows, kernels, levels, limits, numbers, passes, search};
+use crate::{coefficients, final_rows, kernels, levels, limits, numbers, passes, search, slices, sources};
 use rules::random::Random;
 use std::process::ExitCode;
 use std::time::{Duration, Instant, SystemTime, UNIX_EPOCH};
 
-/// The functions of the header in its order, without `vp8lf_`, and whether each can refuse a call.
-const ENTRIES: [(&str, bool); 19] = [
-    ("clamp_s8", false),
-    ("u2s", false),
-    ("s2u", false),
-    ("derive", false),
-    ("common_adjust", true),
-    ("simple_segment", true),
-    ("subblock_filter", true),
-    ("mb_filter", true),
-    ("calculate_mb_filter_level", true),
-    ("calculate_mb_filter_level_inter", true),
-    ("mb_has_coeffs", false),
-    ("filter_frame", true),
-    ("filter_inter_frame", true),
-    ("final_rows", true),
-    ("reconstruction_ssd", true),
-    ("select_filter_params", true),
-    ("select_filter_params_inter", true),
-    ("select_filter_level", true),
-    ("select_filter_level_inter", true),
+/// The functions of the header in its order, without `vp8lf_`, and the numbers that each can refuse a call with. The
+/// largest grid's sum is far below 64 bits, so 10 cannot come.
+const ENTRIES: [(&str, &[u8]); 19] = [
+    ("clamp_s8", &[]),
+    ("u2s", &[]),
+    ("s2u", &[]),
+    ("derive", &[]),
+    ("common_adjust", &[4]),
+    ("simple_segment", &[4]),
+    ("subblock_filter", &[4]),
+    ("mb_filter", &[4]),
+    ("calculate_mb_filter_level", &[6]),
+    ("calculate_mb_filter_level_inter", &[6]),
+    ("mb_has_coeffs", &[]),
+    ("filter_frame", &[1, 2, 3, 5, 6, 7]),
+    ("filter_inter_frame", &[1, 2, 3, 5, 6, 7]),
+    ("final_rows", &[1, 7]),
+    ("reconstruction_ssd", &[1, 2, 3, 8, 9]),
+    ("select_filter_params", &[1, 2, 3, 6, 8, 9]),
+    ("select_filter_params_inter", &[1, 2, 3, 6, 8, 9]),
+    ("select_filter_level", &[1, 2, 3, 6, 8, 9]),
+    ("select_filter_level_inter", &[1, 2, 3, 6, 8, 9]),
 ];
+
+/// Document 01's numbers, 0 being none.
+const NUMBERS: usize = 11;
 
 /// Draws one call, or one of each of several functions, compares it and counts it.
 pub type Draw = Box<dyn FnMut(&mut Random, &mut Calls) -> Result<(), String>>;
@@ -39,6 +43,7 @@ fn draws() -> Vec<(usize, Draw)> {
         (2_000, Box::new(numbers::draw)),
         (2_000, Box::new(limits::draw)),
         (2_000, kernels::drawer()),
+        (20, slices::drawer()),
         (5_000, Box::new(levels::draw)),
         (1_000, coefficients::drawer()),
         (20, Box::new(final_rows::draw)),
@@ -46,44 +51,48 @@ fn draws() -> Vec<(usize, Draw)> {
     for pass in PASSES {
         draws.push((100, passes::drawer(pass)));
         draws.push((40, search::drawer(pass)));
+        draws.push((1, sources::drawer(pass)));
     }
     draws
 }
 
-/// How many calls of each function were made, and how many of them were refused.
+/// How many calls of each function were answered by each number.
 #[derive(Clone, Debug, Default, PartialEq)]
-pub struct Calls([[u64; 2]; ENTRIES.len()]);
+pub struct Calls([[u64; NUMBERS]; ENTRIES.len()]);
 
 impl Calls {
     /// Counts a call of a function that answers 0 or the number of a refusal.
     pub fn add(&mut self, entry: &str, answer: u8) {
         let at = ENTRIES.iter().position(|(name, _)| *name == entry).expect("a function of the header");
-        self.0[at][0] += 1;
-        self.0[at][1] += (answer != 0) as u64;
+        self.0[at][answer as usize] += 1;
     }
 
-    fn of_entries(&self) -> impl Iterator<Item = (&'static str, bool, [u64; 2])> {
+    fn of_entries(&self) -> impl Iterator<Item = (&'static str, &'static [u8], [u64; NUMBERS])> {
         ENTRIES.into_iter().zip(self.0).map(|((name, refuses), counts)| (name, refuses, counts))
     }
 
+    /// Calls, and those refused.
     fn sum(&self) -> [u64; 2] {
-        self.0.iter().fold([0, 0], |[calls, refused], counts| [calls + counts[0], refused + counts[1]])
+        let sum = |first: usize| self.0.iter().flat_map(|counts| &counts[first..]).sum();
+        [sum(0), sum(1)]
     }
 
-    /// The functions that were not called, and those that never refused though they can.
+    /// The functions that were not called or never accepted a call, and refusals that did not come though they can.
     fn missing(&self) -> Vec<String> {
-        let missing = |(name, refuses, counts): (&str, bool, [u64; 2])| match counts {
-            [0, _] => Some(format!("vp8lf_{name} was not called")),
-            [_, 0] if refuses => Some(format!("vp8lf_{name} never refused")),
-            _ => None,
+        let missing = |(name, refuses, counts): (&str, &[u8], [u64; NUMBERS])| {
+            let accepted = (counts[0] == 0).then(|| format!("vp8lf_{name} was not called, or never accepted a call"));
+            let never = refuses.iter().filter(|number| counts[**number as usize] == 0);
+            let never: Vec<String> = never.map(|number| format!("vp8lf_{name} never refused by {number}")).collect();
+            accepted.into_iter().chain(never).collect::<Vec<_>>()
         };
-        self.of_entries().filter_map(missing).collect()
+        self.of_entries().flat_map(missing).collect()
     }
 
     fn print(&self) {
-        for (name, refuses, [calls, refused]) in self.of_entries() {
-            let refused = if refuses { format!(", {} refused", grouped(refused)) } else { String::new() };
-            println!("  vp8lf_{name}: {} calls{refused}", grouped(calls));
+        for (name, refuses, counts) in self.of_entries() {
+            let by = |number: &u8| format!(", {} refused by {number}", grouped(counts[*number as usize]));
+            let refused: String = refuses.iter().map(by).collect();
+            println!("  vp8lf_{name}: {} calls{refused}", grouped(counts.iter().sum()));
         }
     }
 }
@@ -162,11 +171,8 @@ mod tests {
 
     #[test]
     fn the_entries_are_those_of_the_header() {
-        let header = include_str!("../../../include/vp8_loop_filter.h");
-        let before_parenthesis = |text: &'static str| text.split_once('(').map(|(name, _)| name);
-        let names = header.split("vp8lf_").skip(1).filter_map(before_parenthesis);
-        let name = |name: &&str| name.chars().all(|letter| letter.is_ascii_alphanumeric() || letter == '_');
-        assert_eq!(names.filter(name).collect::<Vec<_>>(), ENTRIES.map(|(name, _)| name));
+        let names = signatures::of_the_header().into_iter().map(|function| function.name);
+        assert_eq!(names.collect::<Vec<_>>(), ENTRIES.map(|(name, _)| format!("vp8lf_{name}")));
     }
 
     fn after_turns(turns: usize, seed: u64) -> (Calls, u64) {
@@ -176,25 +182,26 @@ mod tests {
     }
 
     #[test]
-    fn two_turns_reach_every_entry_and_a_seed_determines_them() {
-        let (calls, next) = after_turns(2, 1);
+    fn few_turns_reach_every_entry_and_refusal_and_a_seed_determines_them() {
+        let (calls, next) = after_turns(8, 1);
         assert_eq!(calls.missing(), [""; 0]);
-        assert_eq!(after_turns(2, 1), (calls, next));
-        assert_ne!(after_turns(2, 2).1, next);
+        assert_eq!(after_turns(8, 1), (calls, next));
+        assert_ne!(after_turns(1, 2), after_turns(1, 1));
     }
 
     #[test]
     fn a_difference_or_a_missing_entry_fails() {
         let mut soak = Soak::new(1);
-        assert_eq!(soak.failures(Ok(())).len(), ENTRIES.len());
+        let refusals: usize = ENTRIES.iter().map(|(_, refuses)| refuses.len()).sum();
+        assert_eq!(soak.failures(Ok(())).len(), ENTRIES.len() + refusals);
         ENTRIES.iter().for_each(|(name, _)| soak.calls.add(name, 0));
-        assert_eq!(soak.failures(Ok(())).len(), ENTRIES.iter().filter(|(_, refuses)| *refuses).count());
-        ENTRIES.iter().for_each(|(name, refuses)| soak.calls.add(name, *refuses as u8));
+        assert_eq!(soak.failures(Ok(())).len(), refusals);
+        ENTRIES.iter().for_each(|(name, refuses)| refuses.iter().for_each(|number| soak.calls.add(name, *number)));
         assert_eq!(soak.failures(Ok(())), [""; 0]);
         soak.draws =
             vec![(3, Box::new(|random, _| if random.below(1) == 0 { Err(String::from("differs")) } else { Ok(()) }))];
         let outcome = soak.turn(|| true);
-        assert_eq!(soak.failures(outcome), ["after 38 calls: differs"]);
+        assert_eq!(soak.failures(outcome), [format!("after {} calls: differs", ENTRIES.len() + refusals)]);
     }
 
     #[test]

@@ -143,10 +143,22 @@ pub fn reconstruction_ssd(planes: [&[u8]; 3], layout: &Layout, source: &Source, 
     lent::reconstruction_ssd(&reconstruction(planes, layout), &source.planes(), sum)
 }
 
-pub fn select(search: &Search, sought: Sought, [y, u, v]: [&mut [u8]; 3], choice: &mut Choice) -> u8 {
+pub fn select(search: &Search, sought: Sought, scratch: [&mut [u8]; 3], choice: &mut Choice) -> u8 {
+    let Choice { level, sharpness, count } = choice;
+    select_into(search, sought, scratch, level, sharpness, count)
+}
+
+/// The same, with each out-parameter where the caller wants it.
+pub fn select_into(
+    search: &Search,
+    sought: Sought,
+    [y, u, v]: [&mut [u8]; 3],
+    level: &mut u8,
+    sharpness: &mut u8,
+    count: &mut usize,
+) -> u8 {
     let planes = reconstruction(search.planes, search.layout);
     let (source, lists, base) = (search.source.planes(), search.lists.of(search.pass), settings(search.config));
-    let Choice { level, sharpness, count } = choice;
     let sharpness = (sought == Sought::Params).then_some(sharpness);
     lent::select(&planes, &source, &lists, &base, &mut Scratch { y, u, v }, level, sharpness, count)
 }
@@ -157,7 +169,7 @@ fn reconstruction<'a>([y, u, v]: [&'a [u8]; 3], layout: &Layout) -> Planes<'a> {
 }
 
 /// The Rust's settings as those of the crate that calls the library.
-fn settings(config: &FrameFilterConfig) -> vp8_loop_filter::FrameFilterConfig {
+pub fn settings(config: &FrameFilterConfig) -> vp8_loop_filter::FrameFilterConfig {
     vp8_loop_filter::FrameFilterConfig {
         simple: config.simple,
         key_frame: config.key_frame,

@@ -183,9 +183,14 @@ impl Reader<'_> {
         self.code = self.code << 8 | byte.copied().unwrap_or(0) as u32;
     }
 
-    /// Whether all bytes were read and none was missing.
-    pub fn at_end(&self) -> bool {
-        self.bytes.len() == 0 && !self.missing
+    /// The bytes that are not read yet.
+    pub fn left(&self) -> usize {
+        self.bytes.len()
+    }
+
+    /// Whether bytes behind the last were asked for.
+    pub fn missing(&self) -> bool {
+        self.missing
     }
 }
 

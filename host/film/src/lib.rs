@@ -1,11 +1,24 @@
 //! Recorded inputs and outputs of the loop filter. `README.md` has the formats and where the frames come from.
 
 mod coding;
+#[cfg(test)]
+mod damaged;
+mod fault;
+mod vplf;
+mod vplk;
 
+pub use fault::Fault;
 use oracle::FrameFilterConfig;
+pub use vplf::{read, write};
+pub use vplk::pack;
+use vplk::unpack;
 
 const HEADER: usize = 64;
 const MAGIC: &[u8] = b"VPLF\x01\x00\x40\x00";
+const MAGIC_WORDS: &str = "\"VPLF\", version 1 and header length 64, each of the two in 2 bytes";
+
+/// The most columns, and the most rows, of macroblocks (document 01, refusal 1).
+const SIDE: usize = 1024;
 
 /// A frame before the loop filter, and the checksum of its planes after it.
 #[derive(Clone, Debug, PartialEq)]
@@ -65,67 +78,13 @@ pub fn bench() -> Vec<Frame> {
     kept!["bench_1280x720"].remove(0).frames
 }
 
-/// The frames of a `.vplf` file. `None` if it is not one.
-pub fn read(mut bytes: &[u8]) -> Option<Vec<Frame>> {
-    let mut frames = Vec::new();
-    while !bytes.is_empty() {
-        let header: [u8; HEADER] = *bytes.split_off(..HEADER)?.first_chunk()?;
-        let mut frame = Frame::sized(header)?;
-        let n = frame.modes.len();
-        let mut part = |len: usize| bytes.split_off(..len);
-        for list in [&mut frame.modes, &mut frame.references, &mut frame.inter_modes, &mut frame.segments] {
-            list.copy_from_slice(part(n)?);
-        }
-        // Whether some coefficient was decoded. The Rust asks whether any of the 400 is not 0, which is the next list.
-        part(n)?;
-        frame.flags.copy_from_slice(part(n)?);
-        for plane in &mut frame.planes {
-            let samples = part(plane.len())?;
-            plane.copy_from_slice(samples);
-        }
-        let mut after = frame.planes.clone();
-        for sample in after.iter_mut().flatten().zip(part(384 * n)?) {
-            *sample.0 = sample.0.wrapping_add(*sample.1);
-        }
-        frame.after = checksum(&after);
-        frames.push(frame);
-    }
-    Some(frames)
-}
-
-/// A `.vplk` file: the number of frames, then the coded frames.
-pub fn pack(frames: &[Frame]) -> Vec<u8> {
-    let (mut writer, mut model) = (coding::Writer::new(), coding::Model::new());
-    for frame in frames {
-        let header = coding::code_header(&mut writer, &mut model, frame.header);
-        let mut again = Frame { header, ..frame.clone() };
-        coding::code_frame(&mut writer, &mut model, &mut again);
-    }
-    let count = u16::try_from(frames.len()).expect("some frames of a stream");
-    [&count.to_le_bytes()[..], &writer.finish()].concat()
-}
-
-/// The frames of a `.vplk` file. `None` if it is not one.
-pub fn unpack(bytes: &[u8]) -> Option<Vec<Frame>> {
-    let (count, coded) = bytes.split_first_chunk()?;
-    let (mut reader, mut model) = (coding::Reader::new(coded), coding::Model::new());
-    let mut frames = Vec::new();
-    for _ in 0..u16::from_le_bytes(*count) {
-        let header = coding::code_header(&mut reader, &mut model, [0; HEADER]);
-        let mut frame = Frame::sized(header)?;
-        coding::code_frame(&mut reader, &mut model, &mut frame);
-        frames.push(frame);
-    }
-    reader.at_end().then_some(frames)
-}
-
 impl Frame {
-    /// A frame of the header's size, all 0. `None` if it is no header.
-    fn sized(header: [u8; HEADER]) -> Option<Frame> {
-        if !header.starts_with(MAGIC) {
-            return None;
+    /// A frame whose lists and planes are empty. A fault is told from the header's first byte.
+    fn headed(header: [u8; HEADER]) -> Result<Frame, Fault> {
+        if let Some(at) = (0..MAGIC.len()).find(|at| header[*at] != MAGIC[*at]) {
+            return Err(Fault::new(at, MAGIC_WORDS, format!("{:?}", &header[..MAGIC.len()])));
         }
-        let mut frame = Frame {
+        let frame = Frame {
             header,
             modes: Vec::new(),
             references: Vec::new(),
@@ -135,14 +94,27 @@ impl Frame {
             planes: [const { Vec::new() }; 3],
             after: 0,
         };
-        let n = frame.columns() * frame.rows();
-        for list in frame.lists_mut() {
-            list.resize(n, 0);
+        let (width, height) = (16 * frame.columns(), 16 * frame.rows());
+        let most = [("columns of macroblocks", SIDE), ("rows of macroblocks", SIDE)];
+        let most = most.into_iter().chain([("visible columns", width), ("visible rows", height)]);
+        for (at, (what, most)) in (12..).step_by(2).zip(most) {
+            let found = frame.number(at) as usize;
+            if !(1..=most).contains(&found) {
+                return Err(Fault::new(at, format!("1 to {most} {what}"), found));
+            }
         }
-        for (plane, side) in frame.planes.iter_mut().zip([16, 8, 8]) {
-            plane.resize(side * side * n, 0);
-        }
-        Some(frame)
+        Ok(frame)
+    }
+
+    fn macroblocks(&self) -> usize {
+        self.columns() * self.rows()
+    }
+
+    /// Gives the lists and planes their lengths, all 0.
+    fn allocate(&mut self) {
+        let n = self.macroblocks();
+        self.lists_mut().into_iter().for_each(|list| list.resize(n, 0));
+        self.planes.iter_mut().zip([16, 8, 8]).for_each(|(plane, side)| plane.resize(side * side * n, 0));
     }
 
     fn lists_mut(&mut self) -> [&mut Vec<u8>; 5] {
@@ -207,43 +179,6 @@ pub fn checksum(planes: &[Vec<u8>; 3]) -> u64 {
 #[cfg(test)]
 mod tests {
     use super::*;
-
-    #[test]
-    fn kept_film_packs_to_itself() {
-        for stream in kept() {
-            assert!(!stream.frames.is_empty(), "{}", stream.name);
-            assert_eq!(unpack(&pack(&stream.frames)).expect("packed"), stream.frames, "{}", stream.name);
-        }
-    }
-
-    #[test]
-    fn a_frame_is_read_from_vplf() {
-        let frame = kept().remove(0).frames.remove(0);
-        let mut bytes = frame.header.to_vec();
-        let lists = [&frame.modes, &frame.references, &frame.inter_modes, &frame.segments, &frame.flags, &frame.flags];
-        lists.into_iter().chain(&frame.planes).for_each(|part| bytes.extend(part));
-        // One sample of v differs after the filter.
-        let mut after = frame.planes.clone();
-        let last = after[2].last_mut().expect("a sample");
-        *last = last.wrapping_sub(3);
-        bytes.resize(bytes.len() + 384 * frame.modes.len() - 1, 0);
-        bytes.push(253);
-        let twice = [&bytes[..], &bytes].concat();
-        let read = read(&twice).expect("two frames");
-        let expected = Frame { after: checksum(&after), ..frame };
-        assert_eq!(read, [expected.clone(), expected]);
-        assert_eq!(super::read(&twice[1..]), None);
-        assert_eq!(super::read(&twice[..twice.len() - 1]), None);
-    }
-
-    #[test]
-    fn damaged_files_are_refused() {
-        let packed = pack(&kept().remove(5).frames[..1]);
-        assert!(unpack(&packed).is_some());
-        assert!(unpack(&packed[..packed.len() / 2]).is_none());
-        assert!(unpack(&[&packed[..], &[0]].concat()).is_none());
-        assert!(unpack(&[]).is_none());
-    }
 
     /// The published values of FNV-1a for "" and "foobar".
     #[test]

@@ -1,6 +1,6 @@
 //! The oracle: the VP8 loop filter in Rust that the Rattle crates replace.
 //!
-//! `original/` holds its five files byte for byte (`tests/unchanged.rs` has their checksums) and their licence. They
+//! `original/` holds its five files byte for byte (`SHA256SUMS` has their checksums) and their licence. They
 //! are compiled here as modules, without the feature `simd`. The module `shims` stands in for what they import and
 //! the filter never runs.
 //!

@@ -2,7 +2,7 @@
 //! no answer, as for a refused call, the recorded one is document 01's.
 //!
 //! Without arguments it writes `stdin` and `stdout` of the programs anew. With `--check` it makes them anew and compares
-//! them with the files.
+//! them with the files. With `--film FILE` it writes the film of the repository as one `.vplf` file.
 
 mod bytes;
 mod passes;
@@ -70,13 +70,24 @@ fn output(sections: &[Section]) -> Vec<u8> {
     (lines + "end of the recording\n").into_bytes()
 }
 
+fn write(path: &Path, bytes: &[u8]) -> ExitCode {
+    match std::fs::write(path, bytes) {
+        Ok(()) => ExitCode::SUCCESS,
+        Err(error) => {
+            eprintln!("replay: {}: {error}", path.display());
+            ExitCode::FAILURE
+        }
+    }
+}
+
 fn main() -> ExitCode {
     let arguments: Vec<String> = std::env::args().skip(1).collect();
     let check = match arguments.iter().map(String::as_str).collect::<Vec<_>>()[..] {
         [] => false,
         ["--check"] => true,
+        ["--film", path] => return write(Path::new(path), &recorded_film::stream()),
         _ => {
-            eprintln!("replay: the only argument is --check");
+            eprintln!("usage: replay [--check | --film FILE.vplf]");
             return ExitCode::from(2);
         }
     };
@@ -100,9 +111,8 @@ fn keep((name, sections): &Program, check: bool) -> bool {
                 eprintln!("replay: crates/{name}/{file} is not what the oracle answers now");
                 equal = false;
             }
-        } else if let Err(error) = std::fs::write(&path, made) {
-            eprintln!("replay: {}: {error}", path.display());
-            equal = false;
+        } else {
+            equal &= write(&path, &made) == ExitCode::SUCCESS;
         }
     }
     equal

@@ -2,7 +2,7 @@
 
 use crate::Section;
 use crate::bytes::Bytes;
-use crate::picture::{Layout, Lists, PASSES, Pass, Picture, SIDE};
+use crate::picture::{Layout, Lists, PASSES, Pass, Picture, Planes, SIDE};
 use film::Frame;
 
 /// Stream and place of the frames that are recorded. Both filters, segments of both kinds, every reference and rewritten
@@ -43,16 +43,35 @@ fn of_pass(frame: &Frame) -> Pass {
     if frame.config().key_frame { Pass::Key } else { Pass::Inter }
 }
 
-/// The whole pass over a frame, which leaves the film's checksum.
-fn record(frame: &Frame, pass: Pass) -> Bytes {
+fn layout(frame: &Frame) -> Layout {
     let (columns, rows) = (frame.columns(), frame.rows());
-    let layout = Layout { columns, rows, y_stride: 16 * columns, uv_stride: 8 * columns };
+    Layout { columns, rows, y_stride: 16 * columns, uv_stride: 8 * columns }
+}
+
+fn lists(frame: &Frame) -> Lists {
     let Frame { modes, segments, flags, references, inter_modes, .. } = frame.clone();
-    let lists = Lists([modes, segments, flags, references, inter_modes]);
-    let (records, planes, config) = (lists.records(pass), frame.planes.clone(), frame.config());
-    let after = Picture { pass, layout, planes, records, config }.unbroken();
+    Lists([modes, segments, flags, references, inter_modes])
+}
+
+/// What the Rust's pass leaves of a frame, which has the film's checksum.
+fn after(frame: &Frame) -> Planes {
+    let pass = of_pass(frame);
+    let (records, planes, config) = (lists(frame).records(pass), frame.planes.clone(), frame.config());
+    let after = Picture { pass, layout: layout(frame), planes, records, config }.unbroken();
     assert_eq!(film::checksum(&after), frame.after, "the film's checksum");
-    let n = columns * rows;
+    after
+}
+
+/// The film of the repository as one `.vplf` file, that for timing last. The recorded result is what the Rust leaves.
+pub fn stream() -> Vec<u8> {
+    let frames = film::kept().into_iter().flat_map(|stream| stream.frames).chain(film::bench());
+    frames.flat_map(|frame| film::write(&frame, &after(&frame))).collect()
+}
+
+/// The whole pass over a frame.
+fn record(frame: &Frame, pass: Pass) -> Bytes {
+    let (layout, lists, config, after) = (layout(frame), lists(frame), frame.config(), after(frame));
+    let n = frame.columns() * frame.rows();
     let answer =
         rules::pass(&layout, SIDE.map(|side| side * side * n), |listed| listed != n, lists.bad(pass), 0, usize::MAX);
     let head = Bytes::default().place(&layout, 0, usize::MAX).settings(&config).answer(answer);

@@ -19,7 +19,7 @@ fn main() -> ExitCode {
 
 fn pack(input: &str, output: &str, places: &[String]) -> Result<(), String> {
     let bytes = std::fs::read(input).map_err(|error| format!("{input}: {error}"))?;
-    let film = film::read(&bytes).ok_or(format!("{input} is no film"))?;
+    let film = film::read(&bytes).map_err(|fault| format!("{input}: {fault}"))?;
     let mut frames = Vec::new();
     for place in places {
         let frame = film.iter().find(|frame| frame.place().to_string() == *place);

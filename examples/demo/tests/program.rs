@@ -1,0 +1,50 @@
+//! The program as a user runs it.
+
+use std::path::{Path, PathBuf};
+use std::process::{Command, Stdio};
+
+/// The program, with pictures to a directory of its own.
+fn demo(name: &str) -> (Command, PathBuf) {
+    let directory = Path::new(env!("CARGO_TARGET_TMPDIR")).join(name);
+    let mut command = Command::new(env!("CARGO_BIN_EXE_demo"));
+    command.arg(&directory);
+    (command, directory)
+}
+
+/// The repository's film is equal, and no word says that anything was decoded.
+#[test]
+fn the_film_is_equal() {
+    let (mut command, _) = demo("film");
+    let output = command.output().expect("it starts");
+    let text = String::from_utf8(output.stdout).expect("text");
+    assert!(output.status.success(), "{text}");
+    let frames = film::kept().iter().map(|stream| stream.frames.len()).sum::<usize>() + film::bench().len();
+    assert!(text.ends_with(&format!("\n{frames} of {frames} frames are equal to the recorded result\n")), "{text}");
+    assert!(!text.contains("decoded"), "{text}");
+}
+
+/// A reader that has gone: the pictures are written all the same, and nothing is said of it.
+#[test]
+fn a_closed_pipe_is_no_failure() {
+    let (mut command, directory) = demo("closed");
+    let mut child = command.stdout(Stdio::piped()).stderr(Stdio::piped()).spawn().expect("it starts");
+    drop(child.stdout.take());
+    let output = child.wait_with_output().expect("it ends");
+    assert_eq!((output.status.code(), String::from_utf8_lossy(&output.stderr).as_ref()), (Some(0), ""));
+    let picture = std::fs::read(directory.join("key-normal-after.png")).expect("a picture");
+    assert!(picture.starts_with(b"\x89PNG"));
+}
+
+/// A file of 12 kilobytes whose header promises 65,535 x 65,535 macroblocks.
+#[test]
+fn a_promised_size_is_refused() {
+    let path = Path::new(env!("CARGO_TARGET_TMPDIR")).join("promised.vplf");
+    let mut film = b"VPLF\x01\x00\x40\x00\x00\x00\x00\x00\xFF\xFF\xFF\xFF".to_vec();
+    film.resize(12 * 1024, 1);
+    std::fs::write(&path, film).expect("a file");
+    let (mut command, _) = demo("promised");
+    let output = command.arg(&path).output().expect("it starts");
+    let text = String::from_utf8_lossy(&output.stderr).into_owned();
+    let reason = "is no .vplf film: byte 12: expected 1 to 1024 columns of macroblocks, found 65535\n";
+    assert!(output.status.code() == Some(1) && text.ends_with(reason), "{text}");
+}

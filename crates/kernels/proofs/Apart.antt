@@ -1,6 +1,7 @@
 -- Distances of samples: on the samples as stored they are those of the signed samples.
 -- Assumes nothing.
 use mathlib.Core.Path.{_≡_, refl, sym, ap, _∙_}
+use mathlib.Core.Logic.{_⊎_, inl, inr}
 use mathlib.Core.Bool.{Bool, true, false, cond, not, _&&_, _||_}
 use Prim.Native.Nat.{ℕ, zero, suc, _+_, _-_, _*_, _/_, _%_, _^_, _≤_, _<_}
 use native.Mathlib.Omega.{arith}
@@ -11,7 +12,7 @@ use Rattle.arithmetic.specs.Numbers.{u2s}
 use Rattle.kernels.specs.Kernels.{apart, edgeValue, simpleYes, filterYes, hev, segmentYes, segmentHev}
 use Rattle.kernels.specs.Private.Windows.{neighboursNear, lowVariance}
 
-pos-sub : (a b : ℕ) → pos a -ℤ pos b ≡ subℕ a b
+pub pos-sub : (a b : ℕ) → pos a -ℤ pos b ≡ subℕ a b
 pos-sub a zero = ap pos (omega arith) ∙ sym (ap (λ (t : Bool). cond t (negsuc (0 - suc a)) (pos (a - 0))) (le-ltb a 0 (omega arith)))
 pos-sub a (suc b) = refl
 
@@ -22,6 +23,31 @@ apart-below a b h = ap natAbs (pos-sub a b) ∙ ap (λ (t : Bool). natAbs (cond 
 pub apart-above : (a b : ℕ) → b ≤ a → apart (pos a) (pos b) ≡ a - b
 unfolding apart
 apart-above a b h = ap natAbs (pos-sub a b) ∙ ap (λ (t : Bool). natAbs (cond t (negsuc (b - suc a)) (pos (a - b)))) (le-ltb a b h)
+
+-- a and b stand n apart, in either order
+abbrev Ends : ℕ → ℕ → ℕ → Type 0
+Ends a b n = (b ≡ a + n) ⊎ (a ≡ b + n)
+
+ends : (a b : ℕ) → Ends a b (apart (pos a) (pos b))
+ends a b = pick (ltb a b) refl
+  where
+    pick : (s : Bool) → ltb a b ≡ s → Ends a b (apart (pos a) (pos b))
+    pick true q = let h : a < b = ltb-true a b q in inl (omega (arith, apart-below a b h))
+    pick false q = let h : b ≤ a = ltb-false a b q in inr (omega (arith, apart-above a b h))
+
+-- differences that are cut at 0
+apart-both : (a b : ℕ) → apart (pos a) (pos b) ≡ (a - b) + (b - a)
+apart-both a b = pick (ends a b)
+  where
+    pick : Ends a b (apart (pos a) (pos b)) → apart (pos a) (pos b) ≡ (a - b) + (b - a)
+    pick (inl e) = omega arith
+    pick (inr e) = omega arith
+
+pub apart-sym : (a b : ℕ) → apart (pos a) (pos b) ≡ apart (pos b) (pos a)
+apart-sym a b = omega (arith, apart-both a b, apart-both b a)
+
+pub triangle : (a b c : ℕ) → apart (pos a) (pos c) ≤ apart (pos a) (pos b) + apart (pos b) (pos c)
+triangle a b c = omega (arith, apart-both a b, apart-both b c, apart-both a c)
 
 -- a difference does not change where both numbers lose the same
 sub-both : (a b k : ℤ) → (a -ℤ k) -ℤ (b -ℤ k) ≡ a -ℤ b
@@ -85,14 +111,43 @@ hev-low t P1 P0 Q0 Q1 x y =
     ∙ either x y (leb (apart (pos P1) (pos P0)) t) (leb (apart (pos Q1) (pos Q0)) t)
 
 -- |a - b| <= i, by the difference that wraps
-pub near-is : (a b i r : ℕ) → a < 256 → b < 256 → i < 256 → r < 2 ^ 64 → (r + b) % 2 ^ 64 ≡ a + i → leb r (2 * i) ≡ leb (apart (pos a) (pos b)) i
-near-is a b i r ha hb hi hr e = pick (leb r (2 * i)) refl (ltb a b) refl
+pub near-is : (a b i r : ℕ) → a + i < 4096 → b < 4096 → r < 2 ^ 64 → (r + b) % 2 ^ 64 ≡ a + i → leb r (2 * i) ≡ leb (apart (pos a) (pos b)) i
+near-is a b i r ha hb hr e = pick (leb r (2 * i)) refl (ends a b)
   where
-    pick : (t : Bool) → leb r (2 * i) ≡ t → (s : Bool) → ltb a b ≡ s → leb r (2 * i) ≡ leb (apart (pos a) (pos b)) i
-    pick true p true q = p ∙ sym (le-leb (apart (pos a) (pos b)) i (omega (arith, leb-true r (2 * i) p, apart-below a b (ltb-true a b q))))
-    pick true p false q = p ∙ sym (le-leb (apart (pos a) (pos b)) i (omega (arith, leb-true r (2 * i) p, apart-above a b (ltb-false a b q))))
-    pick false p true q = p ∙ sym (lt-leb (apart (pos a) (pos b)) i (omega (arith, leb-false r (2 * i) p, apart-below a b (ltb-true a b q), ltb-true a b q)))
-    pick false p false q = p ∙ sym (lt-leb (apart (pos a) (pos b)) i (omega (arith, leb-false r (2 * i) p, apart-above a b (ltb-false a b q), ltb-false a b q)))
+    pick : (t : Bool) → leb r (2 * i) ≡ t → Ends a b (apart (pos a) (pos b)) → leb r (2 * i) ≡ leb (apart (pos a) (pos b)) i
+    pick true p (inl q) = p ∙ sym (le-leb (apart (pos a) (pos b)) i (omega (arith, leb-true r (2 * i) p)))
+    pick true p (inr q) = p ∙ sym (le-leb (apart (pos a) (pos b)) i (omega (arith, leb-true r (2 * i) p)))
+    pick false p (inl q) = p ∙ sym (lt-leb (apart (pos a) (pos b)) i (omega (arith, leb-false r (2 * i) p)))
+    pick false p (inr q) = p ∙ sym (lt-leb (apart (pos a) (pos b)) i (omega (arith, leb-false r (2 * i) p)))
+
+-- two tests of one limit that come to one
+two-tests : (x y z l : ℕ) → (x ≤ l → y ≤ l → z ≤ l) → (z ≤ l → x ≤ l) → (z ≤ l → y ≤ l) → (leb x l && leb y l) ≡ leb z l
+two-tests x y z l f g h = pick (leb x l) (leb y l) (leb z l) refl refl refl
+  where
+    pick : (s t u : Bool) → leb x l ≡ s → leb y l ≡ t → leb z l ≡ u → (leb x l && leb y l) ≡ leb z l
+    pick true true u p q r = (λ j. p j && q j) ∙ sym (le-leb z l (f (leb-true x l p) (leb-true y l q)))
+    pick true false true p q r = let k : y ≤ l = h (leb-true z l r) in absurd (omega (arith, leb-false y l q))
+    pick true false false p q r = (λ j. p j && q j) ∙ sym r
+    pick false t true p q r = let k : x ≤ l = g (leb-true z l r) in absurd (omega (arith, leb-false x l p))
+    pick false t false p q r = (λ j. p j && leb y l) ∙ sym r
+
+-- 4|d| + |o| is the larger of |4d + o| and |4d - o|
+pub larger-sum : (l p1 p0 q0 q1 : ℕ) → (leb (apart (pos (4 * q0 + p1)) (pos (4 * p0 + q1))) l && leb (apart (pos (4 * q0 + q1)) (pos (4 * p0 + p1))) l)
+    ≡ leb (apart (pos p0) (pos q0) * 4 + apart (pos p1) (pos q1)) l
+larger-sum l p1 p0 q0 q1 = pick (ends p0 q0) (ends p1 q1)
+  where
+    a : apart (pos (4 * q0 + p1)) (pos (4 * p0 + q1)) ≡ (4 * q0 + p1 - (4 * p0 + q1)) + (4 * p0 + q1 - (4 * q0 + p1))
+    a = apart-both (4 * q0 + p1) (4 * p0 + q1)
+
+    b : apart (pos (4 * q0 + q1)) (pos (4 * p0 + p1)) ≡ (4 * q0 + q1 - (4 * p0 + p1)) + (4 * p0 + p1 - (4 * q0 + q1))
+    b = apart-both (4 * q0 + q1) (4 * p0 + p1)
+
+    pick : Ends p0 q0 (apart (pos p0) (pos q0)) → Ends p1 q1 (apart (pos p1) (pos q1))
+        → (leb (apart (pos (4 * q0 + p1)) (pos (4 * p0 + q1))) l && leb (apart (pos (4 * q0 + q1)) (pos (4 * p0 + p1))) l) ≡ leb (apart (pos p0) (pos q0) * 4 + apart (pos p1) (pos q1)) l
+    pick (inl d) (inl o) = two-tests _ _ _ l (λ h k. omega (arith, a, b)) (λ h. omega (arith, a)) (λ h. omega (arith, b))
+    pick (inl d) (inr o) = two-tests _ _ _ l (λ h k. omega (arith, a, b)) (λ h. omega (arith, a)) (λ h. omega (arith, b))
+    pick (inr d) (inl o) = two-tests _ _ _ l (λ h k. omega (arith, a, b)) (λ h. omega (arith, a)) (λ h. omega (arith, b))
+    pick (inr d) (inr o) = two-tests _ _ _ l (λ h k. omega (arith, a, b)) (λ h. omega (arith, a)) (λ h. omega (arith, b))
 
 -- the test of the edge, doubled
 pub twice : (x y e : ℕ) → leb (x * 4 + y) (2 * e + 1) ≡ leb (x * 2 + y / 2) e

@@ -45,6 +45,11 @@ unfolding inByte
 in-byte (pos n) e = plain (pos n) (le-ltb n 0 (omega arith)) (sym (ap (λ (t : Bool). t && ltb n 256) (le-leb 0 n (omega arith))) ∙ e)
 in-byte (negsuc n) e = absurd (subst (λ (t : Bool). T (cond t false true)) e tt)
 
+pub byte-in : (v : ℤ) → Plain v → inByte v ≡ true
+unfolding inByte
+byte-in (pos n) p = λ j. le-leb 0 n (omega arith) j && lt-ltb n 256 (p .size) j
+byte-in (negsuc n) p = absurd (p .sign)
+
 -- such a number in a local, cast to a byte; and the tests that say so, joined
 module _ {w : Width} {n : ℕ} {z : ℤ} {A : ℕ} (p : R.Is w n z A) where
   pub told : {f : Bool} → f ≡ inByte (toZ w n) → f ≡ true → Plain z
@@ -60,6 +65,13 @@ pub join : {f g : Bool} {P Q : Type 0} → (f ≡ true → P) → (g ≡ true �
 join {f = true} {g = true} p q t = (p refl, q refl)
 join {f = true} {g = false} p q t = absurd (false≢true t)
 join {f = false} p q t = absurd (false≢true t)
+
+-- what a list is after a store that answers whether it was made
+pub was-stored : {X : Type 0} {m : X} (r : Bool) (x l : X) → m ≡ cond r x l → r ≡ true → m ≡ x
+was-stored r x l e t = e ∙ ap (λ (u : Bool). cond u x l) t
+
+pub was-kept : {X : Type 0} {m : X} (r : Bool) (x l : X) → m ≡ cond r x l → r ≡ false → m ≡ l
+was-kept r x l e t = e ∙ ap (λ (u : Bool). cond u x l) t
 
 -- s2u limits v to -128..127 and adds 128
 s2u-cut : (v : ℤ) → s2u v ≡ cut (v +ℤ pos 128)
@@ -105,7 +117,7 @@ lowered p {a} e i = ap cut (i .val) ∙ moved p (negℤ a) ∙ ap (λ (z : ℤ).
 -- ---- the bound 123, over all signed bytes
 
 -- f holds at each number below n
-abbrev all : (ℕ → Bool) → ℕ → Bool
+abbrev pub all : (ℕ → Bool) → ℕ → Bool
 all f zero = true
 all f (suc n) = f n && all f n
 
@@ -117,7 +129,7 @@ rest : (a b : Bool) → T (a && b) → T b
 rest true b t = t
 rest false b t = absurd t
 
-all-at : (f : ℕ → Bool) (n : ℕ) → T (all f n) → (k : ℕ) → k < n → T (f k)
+pub all-at : (f : ℕ → Bool) (n : ℕ) → T (all f n) → (k : ℕ) → k < n → T (f k)
 all-at f zero t k h = absurd (not-suc-le-zero h)
 all-at f (suc n) t k h = pick (all-at f n (rest (f n) (all f n) t) k) (eqb k n) refl
   where
@@ -158,11 +170,10 @@ half-is = agree (λ a. shrZ (atMost123 a +ℤ pos 12) 16) (λ a. shr (lossOf a +
 
 -- ---- the parts of w
 
-clamp-same : (v : ℤ) → mag v < 128 → clamp v ≡ v
-clamp-same (pos n) h = R.clamp-mid (pos n) refl (lt-ltb n 128 h)
-clamp-same (negsuc n) h = R.clamp-mid (negsuc n) (le-ltb 127 n (omega arith)) refl
+pub part-small : (k : ℕ) (v : ℤ) {A : ℕ} → mag (pos k *ℤ v +ℤ pos 63) < A → T (leb A (128 * 128)) → shrZ (pos k *ℤ v +ℤ pos 63) 128 ≡ part k v
+unfolding part shr
+part-small k v {A} h t =
+    sym (R.clamp-id (shrZ (pos k *ℤ v +ℤ pos 63) 128) (R.in-shr-by 128 128 (pos k *ℤ v +ℤ pos 63) (lit< tt) (lt-of-lt-of-le h (leb→le A (128 * 128) t))))
 
 pub part-is : {w : Width} {n : ℕ} (k : ℕ) (v : ℤ) {A : ℕ} → R.Is w n (pos k *ℤ v +ℤ pos 63) A → T (leb A (128 * 128)) → shrZ (pos k *ℤ v +ℤ pos 63) 128 ≡ part k v
-unfolding part shr
-part-is k v {A} p t =
-    sym (clamp-same (shrZ (pos k *ℤ v +ℤ pos 63) 128) (R.in-shr-by 128 128 (pos k *ℤ v +ℤ pos 63) (lit< tt) (lt-of-lt-of-le (p .inr) (leb→le A (128 * 128) t))))
+part-is k v p t = part-small k v (p .inr) t

@@ -1,6 +1,7 @@
 // RFC 6386, sections 15.2 and 15.3: the tests and the numbers of one segment, from its samples as stored. A difference of samples is that of their signed numbers.
+use crate::near::near;
+use arithmetic::signed::filter_value;
 ghost use mathlib.Core.Path.{_≡_};
-ghost use lib.Dec.{leb};
 ghost use lib.IntN.{pos, _-ℤ_};
 ghost use Rattle.arithmetic.specs.Numbers as num;
 ghost use Rattle.kernels.specs.Kernels as spec;
@@ -11,13 +12,6 @@ fn apart(a: u8, b: u8) -> u8
     ensures { λ r. ⌜ r ≡ spec.apart (pos a) (pos b) ⌝ }
 {
     if a < b { b - a } else { a - b }
-}
-
-// |a - b| <= limit, as 0 <= a + limit - b <= 2 * limit: below 0 the difference wraps to a number above every limit.
-fn near(a: u8, b: u8, limit: u8) -> bool
-    ensures { λ r. ⌜ r ≡ leb (spec.apart (pos a) (pos b)) limit ⌝ }
-{
-    std::num::wrapping_sub_u64(a as u64 + limit as u64, b as u64) <= 2 * (limit as u64)
 }
 
 // The test of simple_segment, times two: y / 2 <= z is y <= 2 * z + 1.
@@ -63,8 +57,8 @@ fn difference(a: u8, b: u8) -> i16
 }
 
 // a of common_adjust, before it is divided.
-pub(crate) fn filter_value(outer: bool, p1: u8, p0: u8, q0: u8, q1: u8) -> i16
+pub(crate) fn window_value(outer: bool, p1: u8, p0: u8, q0: u8, q1: u8) -> i16
     ensures { λ r. ⌜ r ≡ spec.filterValue outer (num.u2s p1) (num.u2s p0) (num.u2s q0) (num.u2s q1) ⌝ }
 {
-    arithmetic::signed::filter_value(outer, difference(p1, q1), difference(q0, p0))
+    filter_value(outer, difference(p1, q1), difference(q0, p0))
 }

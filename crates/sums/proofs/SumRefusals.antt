@@ -13,7 +13,7 @@ use Rattle.planes.specs.Planes.{Plane, luma, chromaU, chromaV, Planes, Grid, si
 use Rattle.planes.specs.GridRefusals.{pastGrid}
 use Rattle.planes.proofs.GridLaws.{neither}
 use Rattle.planes.proofs.PastGrid.{Sound, grid-there, grid-sound, grid-passes, grid-stops}
-use Rattle.sums.specs.Source.{Source, half, sourceTooLarge, badSourceStrides, shortSource, sourceNeeded, badSource}
+use Rattle.sums.specs.Source.{Source, halfUp, sourceTooLarge, badSourceStrides, shortSource, sourceNeeded, badSource}
 use Rattle.sums.specs.Source as of
 use Rattle.sums.specs.Sums.{errorSum, planeSum, pastSource, sumTooLarge, sumRefusal, sumAnswer}
 use Rattle.sums.specs.Private.SumCode.{fitting, strideOff, Room, Summable}
@@ -206,11 +206,11 @@ module _ (g : Grid) (p : Planes) (s : Source) where
   -- a width or height of 0 sums to 0
   pub no-sample-wide : s .width ≡ 0 → errorSum g p s ≡ 0
   unfolding errorSum planeSum
-  no-sample-wide e = rw e (omega (arith, no-width (p .y) (g .lumaStride) (s .samples .y) (s .lumaStride) (s .height), no-width (p .u) (g .chromaStride) (s .samples .u) (s .chromaStride) (half (s .height)), no-width (p .v) (g .chromaStride) (s .samples .v) (s .chromaStride) (half (s .height))))
+  no-sample-wide e = rw e (omega (arith, no-width (p .y) (g .lumaStride) (s .samples .y) (s .lumaStride) (s .height), no-width (p .u) (g .chromaStride) (s .samples .u) (s .chromaStride) (halfUp (s .height)), no-width (p .v) (g .chromaStride) (s .samples .v) (s .chromaStride) (halfUp (s .height))))
 
   pub no-sample-high : s .height ≡ 0 → errorSum g p s ≡ 0
   unfolding errorSum planeSum
-  no-sample-high e = rw e (omega (arith, no-height (p .y) (g .lumaStride) (s .samples .y) (s .lumaStride) (s .width), no-height (p .u) (g .chromaStride) (s .samples .u) (s .chromaStride) (half (s .width)), no-height (p .v) (g .chromaStride) (s .samples .v) (s .chromaStride) (half (s .width))))
+  no-sample-high e = rw e (omega (arith, no-height (p .y) (g .lumaStride) (s .samples .y) (s .lumaStride) (s .width), no-height (p .u) (g .chromaStride) (s .samples .u) (s .chromaStride) (halfUp (s .width)), no-height (p .v) (g .chromaStride) (s .samples .v) (s .chromaStride) (halfUp (s .width))))
 
 -- a source that has a sample and is not 8
 pub small-source : (cols rows w h : ℕ) → (0 < cols → 0 < rows → (cols ≤ 1024) × (rows ≤ 1024)) → ltb (16 * cols) w ≡ false → ltb (16 * rows) h ≡ false → (w ≡ 0 → ⊥) → (h ≡ 0 → ⊥)

@@ -19,19 +19,19 @@ sourceOf width height y u v lumaStride chromaStride =
     record { width = width; height = height; samples = record { y = y; u = u; v = v }; lumaStride = lumaStride; chromaStride = chromaStride }
 
 -- half, rounded up
-abbrev pub half : ℕ → ℕ
-half n = (n + 1) / 2
+abbrev pub halfUp : ℕ → ℕ
+halfUp n = (n + 1) / 2
 
 -- the samples of a row, the rows, and the stride of each plane
 abbrev pub wide : Source → Plane → ℕ
 wide s luma = s .width
-wide s chromaU = half (s .width)
-wide s chromaV = half (s .width)
+wide s chromaU = halfUp (s .width)
+wide s chromaV = halfUp (s .width)
 
 abbrev pub high : Source → Plane → ℕ
 high s luma = s .height
-high s chromaU = half (s .height)
-high s chromaV = half (s .height)
+high s chromaU = halfUp (s .height)
+high s chromaV = halfUp (s .height)
 
 abbrev pub strideOf : Source → Plane → ℕ
 strideOf s luma = s .lumaStride

@@ -9,7 +9,7 @@ ghost use Prim.Native.Nat.{_+_, _*_, _-_, _≤_, _<_};
 ghost use lib.Dec.{ltb};
 ghost use lib.ListN.{length};
 ghost use Rattle.planes.specs.Layout.{gridOf, planesOf};
-ghost use Rattle.sums.specs.Source.{sourceOf, half};
+ghost use Rattle.sums.specs.Source.{sourceOf, halfUp};
 ghost use Rattle.sums.specs.Sums.{squared, rowSum, rowsSum, errorSum, pastSource, sumAnswer};
 ghost use Rattle.sums.specs.Answers.{sumOutcome};
 ghost use Rattle.sums.specs.Private.SumCode.{fitting, strideOff, shortOf, Bounded, Small, Summable};
@@ -125,10 +125,10 @@ fn bad_source(
     us: usize,
 ) -> bool
     requires { ⌜ (0 < width) × (0 < height) × (width ≤ 16384) × (height ≤ 16384) ⌝ }
-    ensures { λ r. ⌜ r ≡ (strideOff width (half width) ys us
+    ensures { λ r. ⌜ r ≡ (strideOff width (halfUp width) ys us
         || (shortOf «y_len» height ys width
-        || shortOf «u_len» (half height) us (half width)
-        || shortOf «v_len» (half height) us (half width))) ⌝ }
+        || shortOf «u_len» (halfUp height) us (halfUp width)
+        || shortOf «v_len» (halfUp height) us (halfUp width))) ⌝ }
 {
     let cw = (width + 1) / 2;
     let ch = (height + 1) / 2;

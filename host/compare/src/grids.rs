@@ -42,16 +42,26 @@ pub fn compare(plan: &Plan, tally: &mut Tally) {
 
 fn sizes(plan: &Plan, pass: Pass, kind: &mut Kind) -> Result<(), String> {
     rounds(plan, if plan.long { 2_000 } else { 12 }, kind, |random, memory, kind| {
-        for (columns, rows) in shapes(random) {
-            let whole = filtering(pass, tight(columns, rows), random);
-            size(&whole, random.below(whole.macroblocks()), memory, kind)?;
-        }
-        Ok(())
+        shapes(random).into_iter().try_for_each(|shape| of_shape(pass, shape, random, memory, kind))
     })?;
-    // Starts and counts above 16 bits.
     let (mut random, mut memory) = (Random::new(plan.seed), Memory::new());
+    let every = (1..=128).flat_map(|long| [(long, 1), (1, long)]);
+    every.into_iter().try_for_each(|shape| of_shape(pass, shape, &mut random, &mut memory, kind))?;
+    // Starts and counts above 16 bits.
     let whole = filtering(pass, tight(260, 256), &mut random);
     size(&whole, 65_537 + random.below(1000), &mut memory, kind)
+}
+
+/// A picture of a shape, halted anywhere.
+fn of_shape(
+    pass: Pass,
+    (columns, rows): (usize, usize),
+    random: &mut Random,
+    memory: &mut Memory,
+    kind: &mut Kind,
+) -> Result<(), String> {
+    let whole = filtering(pass, tight(columns, rows), random);
+    size(&whole, random.below(whole.macroblocks()), memory, kind)
 }
 
 /// Columns and rows: wide, high, and neither.
@@ -83,10 +93,10 @@ fn size(whole: &Call, halt: usize, memory: &mut Memory, kind: &mut Kind) -> Resu
     Ok(())
 }
 
-/// A stride that 2 does not refuse: none to spare, any, or the largest.
+/// A stride that 2 does not refuse: none to spare, any, a power of 2, or the largest.
 pub fn stride(row: usize, random: &mut Random) -> usize {
-    let any = row + random.below(65_537 - row);
-    random.one_of(&[row, any, any, any, any, 65_536])
+    let (any, power) = (row + random.below(65_537 - row), 1 << random.below(17));
+    random.one_of(&[row, any, any, any, any, row.max(power), 65_536])
 }
 
 fn strides(plan: &Plan, pass: Pass, kind: &mut Kind) -> Result<(), String> {

@@ -7,7 +7,8 @@ use std::fmt::Display;
 
 const PROT_NONE: c_int = 0;
 const PROT_READ_WRITE: c_int = 1 | 2;
-const MAP_PRIVATE_ANONYMOUS: c_int = 2 | 32;
+/// And not reserved: what is not touched is no memory.
+const MAP_PRIVATE_ANONYMOUS: c_int = 2 | 32 | 0x4000;
 const SIGBUS: c_int = 7;
 const SIGSEGV: c_int = 11;
 
@@ -66,6 +67,12 @@ impl Guarded {
             assert!(opened == 0, "mprotect of {readable} bytes");
             Guarded { map: map.cast(), page, readable }
         }
+    }
+
+    /// All that is readable, zeros at first.
+    pub fn all<T: Number>(&mut self) -> &mut [T] {
+        // SAFETY: the readable pages, which this value owns.
+        unsafe { std::slice::from_raw_parts_mut(self.map.add(self.page).cast(), self.readable / size_of::<T>()) }
     }
 
     /// A copy of `items` whose `side` touches an unreadable page.

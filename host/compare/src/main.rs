@@ -27,6 +27,7 @@ mod smaller_call;
 mod soak;
 mod sources;
 mod tally;
+mod vast;
 mod windows;
 
 use entries as ffi;
@@ -55,6 +56,7 @@ const MODULES: &[(&str, Comparison)] = &[
     ("film", recorded::compare),
     ("search", search::compare),
     ("sources", sources::compare),
+    ("vast", vast::compare),
 ];
 
 /// How much to compare.

@@ -95,10 +95,10 @@ impl Out {
 #[derive(PartialEq)]
 pub struct Outcome {
     /// Of the error sum: the number of the refusal, and the sum between its neighbours in memory.
-    sum: (u8, [u64; 3]),
+    pub sum: (u8, [u64; 3]),
     pub answer: u8,
     out: Out,
-    scratch: Planes,
+    pub scratch: Planes,
     others_stay: bool,
     /// `select_filter_level` answers and leaves the same.
     alike: bool,
@@ -164,7 +164,8 @@ impl Search {
         }
     }
 
-    fn expected(&self) -> Outcome {
+    /// What the library must answer and leave.
+    pub fn expected(&self) -> Outcome {
         let (sum, answer, scratch) = (self.expected_sum(), self.refusal(), self.scratch.clone());
         let mut outcome = Outcome { sum, answer, out: UNTOUCHED, scratch, others_stay: true, alike: true };
         if answer == 0 {
@@ -229,7 +230,7 @@ impl Search {
     }
 
     /// The source with planes lent.
-    fn lent_source<'a>(&self, planes: [&'a [u8]; 3]) -> Source<'a> {
+    pub fn lent_source<'a>(&self, planes: [&'a [u8]; 3]) -> Source<'a> {
         let [y_stride, uv_stride, _] = self.strides;
         Source { planes, width: self.width, height: self.height, y_stride, uv_stride }
     }

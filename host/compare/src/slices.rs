@@ -186,7 +186,7 @@ impl Case {
         Box::new(shorter.chain(nearer))
     }
 
-    /// What a call leaves, against the slice that was lent.
+    /// What a call leaves, against the slice lent.
     fn left(&self, answer: &Answer) -> String {
         let changed: Vec<(usize, u8)> =
             answer.seg.iter().copied().enumerate().filter(|(i, byte)| self.seg[*i] != *byte).take(16).collect();

@@ -130,7 +130,8 @@ fn far_apart(layout: Layout, far: [bool; 3], random: &mut Random) -> Search {
 fn sizes(plan: &Plan, pass: Pass, kind: &mut Kind) -> Result<(), String> {
     let largest = [(1024, 1), (1, 1024)];
     rounds(plan, if plan.long { 200 } else { 3 }, kind, |random, memory, kind| {
-        for (columns, rows) in grids::shapes(random).into_iter().chain(largest).chain([(21, 1), (1, 21)]) {
+        let small = (1..=32).flat_map(|long| [(long, 1), (1, long)]);
+        for (columns, rows) in grids::shapes(random).into_iter().chain(largest).chain(small) {
             let rows = rows.min(1500 / columns);
             let call = filtering(pass, tight(columns, rows), random);
             let search = against_source(call, |row, random| row + random.below(3), random);

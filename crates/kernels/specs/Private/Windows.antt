@@ -1,14 +1,16 @@
 -- The kernels on the window of a slice, step by step.
 -- A capital letter is a sample as stored, 0..255.
+use mathlib.Core.Path.{_≡_}
 use mathlib.Core.Bool.{Bool, true, false, cond, _&&_}
 use mathlib.Core.List.{List}
 use Prim.Native.Nat.{ℕ, _+_}
 use lib.Dec.{leb}
-use lib.ListN.{set}
+use lib.ListN.{getD, set}
 use lib.IntN.{ℤ, pos, _+ℤ_, _-ℤ_, natAbs}
 use lib.Signed.{ltZ, leZ}
 use Rattle.arithmetic.specs.Numbers.{u2s, s2u}
-use Rattle.kernels.specs.Kernels.{apart, adjustedP0, adjustedQ0, outerStep, part, wideValue}
+use Rattle.kernels.specs.Kernels.{apart, adjustedP0, adjustedQ0, outerStep, part, wideValue, segmentYes}
+use Rattle.kernels.specs.Segment.{Kernel, subblockFilter, mbFilter, segment}
 
 -- ---- tests
 
@@ -66,3 +68,21 @@ softened threshold l base P1 P0 Q0 Q1 =
 unfoldable pub widened : (threshold : ℕ) → List ℕ → (base P2 P1 P0 Q0 Q1 Q2 : ℕ) → List ℕ
 widened threshold l base P2 P1 P0 Q0 Q1 Q2 =
     cond (lowVariance threshold P1 P0 Q0 Q1) (widenedSix l (base + 1) P2 P1 P0 Q0 Q1 Q2) (adjustedAt true l (base + 3) P1 P0 Q0 Q1)
+
+-- ---- what the normal kernels answer
+
+-- whether filter_yes passes on the window of eight at `base`
+unfoldable pub windowYes : (interior edge : ℕ) → List ℕ → (base : ℕ) → Bool
+windowYes interior edge l base =
+    segmentYes interior edge
+    (getD l base 0) (getD l (base + 1) 0) (getD l (base + 2) 0) (getD l (base + 3) 0)
+    (getD l (base + 4) 0) (getD l (base + 5) 0) (getD l (base + 6) 0) (getD l (base + 7) 0)
+
+-- mb_filter is the wide one
+abbrev pub normal : (wide : Bool) (threshold interior edge : ℕ) → Kernel
+normal wide threshold interior edge = cond wide (mbFilter threshold interior edge) (subblockFilter threshold interior edge)
+
+-- the answer of a kernel on the window at `base` of l, and the list that it leaves
+pub record Filtered (wide : Bool) (threshold interior edge : ℕ) (l : List ℕ) (base : ℕ) (passed : Bool) (l′ : List ℕ) : Type 0 where
+  pub yes : passed ≡ windowYes interior edge l base
+  pub bytes : l′ ≡ segment (normal wide threshold interior edge) (λ t. base + t) l

@@ -12,8 +12,8 @@ use Rattle.kernels.proofs.segments.mb_filter.Tie as tie
 has-window-requires : tie.Need-has-window-requires
 has-window-requires c κs = search needs
 
-mb-filter-at-requires : tie.Need-mb-filter-at-requires
-mb-filter-at-requires c κs = leb-true _ _ (sym (c .before .before .has-window .ensures) ∙ c .before .if1 .taken)
+mb-filter-passed-requires : tie.Need-mb-filter-passed-requires
+mb-filter-passed-requires c κs = leb-true _ _ (sym (c .before .before .has-window .ensures) ∙ c .before .if1 .taken)
 
 same-length : tie.Need-same-length
 same-length c = search needs
@@ -24,7 +24,7 @@ returns c =
     let j = c .before .before in
     let t = j .before .before in
     let h = t .before .has-window .ensures in
-    (sym (taken _ _ h (t .if1 .taken)), j .mb-filter-at .ensures ∙ sym (taken _ _ h (t .if1 .taken)))
+    (sym (taken _ _ h (t .if1 .taken)), j .mb-filter-passed .ensures .bytes ∙ sym (taken _ _ h (t .if1 .taken)))
 
 returns-2 : tie.Need-returns-2
 unfolding kernelOutcome half taps fitsAt windowed windowAnswer
@@ -34,4 +34,4 @@ returns-2 c =
 
 pub mb-filter-spec : {M : Type 1} → statement M
 mb-filter-spec =
-    tie.close (tie.spec has-window-requires mb-filter-at-requires same-length returns returns-2)
+    tie.close (tie.spec has-window-requires mb-filter-passed-requires same-length returns returns-2)

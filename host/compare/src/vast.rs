@@ -1,0 +1,230 @@
+//! Slices of more than 2^32 bytes: windows about 2^31 and 2^32, planes longer than they need be, and lists whose length is
+//! right in 32 bits only. Little of such a slice is ever touched, so little of it is memory.
+
+use crate::Plan;
+use crate::call::{ByteLists, Call, FLAGS, PASSES, Pass, Planes, SEGMENTS};
+use crate::ffi::{self, Choice, Lists, Sought};
+use crate::guard::{self, Guarded};
+use crate::kernels::{ENTRIES, Kernel, KernelOf, UNTOUCHED, middle, window};
+use crate::pictures::picture;
+use crate::search::{Search, against_source};
+use crate::tally::{Kind, Tally};
+use rules::random::Random;
+
+/// Of a slice with windows.
+const LEN: usize = (1 << 32) + (1 << 16);
+/// Of a plane: too short in 32 bits.
+const PLANE: usize = (1 << 32) + 1;
+
+/// How many bytes are compared about a window, after what is lent, and at the end of a slice.
+const AROUND: usize = 64;
+
+const KERNELS: [&str; 3] = ["window below 2^32", "window at 2^32 and above", "refused"];
+const PLANES: [&str; 3] = ["long y", "long u", "long v"];
+/// Of a search.
+const LONG: [&str; 3] = ["long plane", "long source plane", "long scratch plane"];
+const LIST: &str = "long list";
+
+pub fn compare(plan: &Plan, tally: &mut Tally) {
+    let (mut random, mut vast) = (Random::new(plan.seed), Guarded::new(2 * LEN));
+    for (name, _, kernel) in ENTRIES {
+        tally.run(&format!("{name}, above 2^32 bytes"), &KERNELS, |kind| kernels(kernel, &mut random, &mut vast, kind));
+    }
+    tally.run("mb_has_coeffs, 2^32 numbers and more", &["first number set"], |kind| coefficients(&mut vast, kind));
+    for pass in PASSES {
+        let classes = [&PLANES[..], &[LIST]].concat();
+        tally.run(&format!("{}, above 2^32 bytes", pass.entry()), &classes, |kind| {
+            passes(pass, &mut random, &mut vast, kind)
+        });
+        let classes = [&LONG[..], &[LIST]].concat();
+        tally.run(&format!("{}, above 2^32 bytes", Sought::Params.entry(pass)), &classes, |kind| {
+            searches(pass, &mut random, &mut vast, kind)
+        });
+    }
+}
+
+fn kernels(kernel: KernelOf, random: &mut Random, vast: &mut Guarded, kind: &mut Kind) -> Result<(), String> {
+    let about = [1 << 31, 1 << 32].into_iter().flat_map(|power: usize| power - 9..power + 9);
+    for base in [0, 1, 1 << 33, usize::MAX - 7].into_iter().chain(about).chain(LEN - 9..LEN + 2) {
+        let taps = window(random);
+        let kernel = kernel(&taps, random);
+        let class = match kernel.fits(LEN, base) {
+            true if base < 1 << 32 => "window below 2^32",
+            true => "window at 2^32 and above",
+            false => "refused",
+        };
+        kind.add_cases(1);
+        kind.add_class(class, 1);
+        at(kernel, &taps, base, &mut vast.all()[..LEN])?;
+    }
+    Ok(())
+}
+
+/// Compares one window and what lies about it.
+fn at(kernel: Kernel, taps: &[u8; 8], base: usize, slice: &mut [u8]) -> Result<(), String> {
+    let about = base.min(LEN).saturating_sub(AROUND)..base.saturating_add(AROUND).min(LEN);
+    let (begin, width) = (base - about.start, kernel.width());
+    let mut expected = (rules::NO_WINDOW, UNTOUCHED, vec![0; about.len()]);
+    if kernel.fits(LEN, base) {
+        expected.0 = 0;
+        expected.2[begin..begin + width].copy_from_slice(middle(taps, width));
+        slice[about.clone()].copy_from_slice(&expected.2);
+        kernel.call_rust(&mut expected.2, begin, &mut expected.1);
+    }
+    let what = format!("  {kernel}, base {base}, slice of {LEN} bytes, window {taps:?}");
+    let mut adjustment = UNTOUCHED;
+    let answer = guard::calling(&what, || kernel.call_library(slice, base, &mut adjustment));
+    let library = (answer, adjustment, slice[about.clone()].to_vec());
+    slice[about].fill(0);
+    if library == expected {
+        return Ok(());
+    }
+    Err(format!(
+        "\n{what}\n  expected {expected:?}\n  library  {library:?} (answer, adjustment, bytes about the window)"
+    ))
+}
+
+/// Lengths that are 0 and 1 in 32 bits.
+fn coefficients(vast: &mut Guarded, kind: &mut Kind) -> Result<(), String> {
+    for len in [1 << 32, (1 << 32) + 1] {
+        let list: &mut [i16] = vast.all();
+        list[0] = -256;
+        let what = format_args!("  mb_has_coeffs on {len} numbers of which the first is set");
+        let answer = guard::calling(&what, || ffi::mb_has_coeffs(&list[..len]));
+        list[0] = 0;
+        kind.add_cases(1);
+        kind.add_class("first number set", 1);
+        if !answer {
+            return Err(format!("\n{what}\n  expected true, library false"));
+        }
+    }
+    Ok(())
+}
+
+/// Calls with slices of which one is vast: it has zeros after its bytes. Answers what the call does, and whether it leaves
+/// each slice as it must, and zeros in the vast one.
+fn with_long<const N: usize, A>(
+    [before, after]: [&[Vec<u8>; N]; 2],
+    (long, len): (usize, usize),
+    vast: &mut Guarded,
+    call: impl FnOnce([&mut [u8]; N]) -> A,
+) -> (A, bool) {
+    let (mut short, slice) = (before.clone(), &mut vast.all()[..len]);
+    slice[..before[long].len()].copy_from_slice(&before[long]);
+    let mut lent = short.each_mut().map(Vec::as_mut_slice);
+    lent[long] = &mut *slice;
+    let answer = call(lent);
+    let others = (0..N).filter(|i| *i != long).all(|i| short[i] == after[i]);
+    let (begin, rest) = slice.split_at_mut(after[long].len());
+    let end = rest.len() - AROUND;
+    let zeros = rest[..AROUND].iter().chain(&rest[end..]).all(|byte| *byte == 0);
+    let left = others && zeros && begin == after[long];
+    begin.fill(0);
+    (answer, left)
+}
+
+/// Each plane longer than it need be, and each list of a length that is wrong by 2^32.
+fn passes(pass: Pass, random: &mut Random, vast: &mut Guarded, kind: &mut Kind) -> Result<(), String> {
+    let call = picture(pass, 2, 2, random);
+    let Call { layout, config, start, allowance, .. } = &call;
+    for long in 0..3 + call.lists_read().len() {
+        let len = if long < 3 { PLANE } else { (1 << 32) + call.macroblocks() };
+        let judged = if long < 3 { call.clone() } else { longer_list(&call, long - 3) };
+        let expected = judged.expected();
+        let what = format!("{call}\n  with slice {long} (planes, lists) of {len} bytes");
+        let lent = [&slices(&judged.planes, &judged.lists), &slices(&expected.planes, &judged.lists)];
+        let (library, stays) =
+            with_long(lent, (long, len), vast, |[y, u, v, modes, segments, flags, references, inter_modes]| {
+                let lists = Lists { modes, segments, flags, references, inter_modes };
+                let [mut count, mut next] = [expected.done().count, expected.done().next].map(|number| !number);
+                let answer = guard::calling(&what, || {
+                    ffi::filter(pass, [y, u, v], layout, &lists, config, *start, *allowance, &mut count, &mut next)
+                });
+                (answer, count, next)
+            });
+        let done = expected.done();
+        let [count, next] = [done.count, done.next].map(|number| if expected.answer == 0 { number } else { !number });
+        kind.add_cases(1);
+        kind.add_class(PLANES.get(long).unwrap_or(&LIST), 1);
+        if library != (expected.answer, count, next) || !stays {
+            return Err(format!(
+                "\n{what}\n  expected {:?}, library {library:?} (answer, count, next start), slices left as they must be: {stays}",
+                (expected.answer, count, next)
+            ));
+        }
+    }
+    Ok(())
+}
+
+/// The same call with one more entry in a list, in which 6 is not judged: its first entry is 255.
+fn longer_list(call: &Call, list: usize) -> Call {
+    let mut longer = call.clone();
+    longer.lists[list][0] = 255;
+    longer.lists[list].push(0);
+    longer
+}
+
+/// The slices of a pass.
+fn slices([y, u, v]: &Planes, [modes, segments, flags, references, inter_modes]: &ByteLists) -> [Vec<u8>; 8] {
+    [y, u, v, modes, segments, flags, references, inter_modes].map(Vec::clone)
+}
+
+/// The same for error sums and searches, with the planes of the source and the scratch planes. With lists of the right
+/// length a level above 0 is chosen. Long lists are those in which 6 judges nothing: the others are read by every
+/// candidate, which takes seconds.
+fn searches(pass: Pass, random: &mut Random, vast: &mut Guarded, kind: &mut Kind) -> Result<(), String> {
+    let search = loop {
+        let search = against_source(picture(pass, 2, 1, random), |row, _| row, random);
+        if search.by_the_rule().0 > 0 {
+            break search;
+        }
+    };
+    for long in (0..9).chain([9 + SEGMENTS, 9 + FLAGS]) {
+        let (class, len) =
+            if long < 9 { (LONG[long / 3], PLANE) } else { (LIST, (1 << 32) + search.call.macroblocks()) };
+        let call = if long < 9 { search.call.clone() } else { longer_list(&search.call, long - 9) };
+        let judged = Search { call, ..search.clone() };
+        let expected = judged.expected();
+        let what = format!("{search}\n  with slice {long} (planes, source, scratch planes, lists) of {len} bytes");
+        let lent = [&all_slices(&judged, &search.scratch), &all_slices(&judged, &expected.scratch)];
+        let (library, stays) =
+            with_long(lent, (long, len), vast, |slices| guard::calling(&what, || sum_and_choices(&search, slices)));
+        kind.add_cases(1);
+        kind.add_class(class, 1);
+        let choice = expected.choice();
+        let choices =
+            [choice, Choice { sharpness: BEFORE.sharpness, ..choice }].map(|choice| (expected.answer, choice));
+        let wanted = (expected.sum.0, expected.sum.1[1], choices);
+        if library != wanted || !stays {
+            return Err(format!(
+                "\n{what}\n  expected {wanted:?}, library {library:?}, slices left as they must be: {stays}"
+            ));
+        }
+    }
+    Ok(())
+}
+
+fn all_slices(search: &Search, scratch: &Planes) -> [Vec<u8>; 14] {
+    let slices = [&search.call.planes[..], &search.source, scratch, &search.call.lists].concat();
+    slices.try_into().expect("fourteen slices")
+}
+
+/// What a choice holds before a search.
+const BEFORE: Choice = Choice { level: 255, sharpness: 255, count: 255 };
+
+/// The error sum, the search for level and sharpness, and after it the search for the level alone.
+fn sum_and_choices(search: &Search, slices: [&mut [u8]; 14]) -> (u8, u64, [(u8, Choice); 2]) {
+    let [y, u, v, sy, su, sv, ty, tu, tv, modes, segments, flags, references, inter_modes] = slices;
+    let source = search.lent_source([sy, su, sv]);
+    let lists = Lists { modes, segments, flags, references, inter_modes };
+    let Call { pass, layout, config, .. } = &search.call;
+    let planes = [&*y, &*u, &*v];
+    let asked = ffi::Search { pass: *pass, planes, layout, source: &source, lists: &lists, config };
+    let mut sum = u64::MAX;
+    let refused = ffi::reconstruction_ssd(planes, layout, &source, &mut sum);
+    let choices = [Sought::Params, Sought::Level].map(|sought| {
+        let mut choice = BEFORE;
+        (ffi::select(&asked, sought, [&mut *ty, &mut *tu, &mut *tv], &mut choice), choice)
+    });
+    (refused, sum, choices)
+}

@@ -2,7 +2,7 @@
  * Replays the recorded calls of crates/replay and crates/replay_search, whose files stdin it reads one after the other, through
  * the C functions: each must answer and leave what the Rust answered and left, or document 01's refusal. host/replay/src writes the
  * records, section by section. Where that program calls a function that takes records of macroblocks, this one calls the function
- * over byte lists.
+ * over byte lists. A full search, which is not recorded, is made on the call of each search.
  */
 #include "passes.h"
 
@@ -383,6 +383,51 @@ static uint8_t select_level(bool inter, const struct search *s, uint8_t *level, 
                                      count);
 }
 
+static uint8_t full_search(bool inter, const struct search *s, uint8_t *level, uint8_t *sharpness, uint64_t *sum)
+{
+    const struct frame *f = &s->frame;
+    if (inter)
+        return vp8lf_full_search_inter(PLANES(f), SOURCE(s), INTER_LISTS(f), SETTINGS(f->settings), SCRATCH_PLANES,
+                                       level, sharpness, sum);
+    return vp8lf_full_search(PLANES(f), SOURCE(s), KEY_LISTS(f), SETTINGS(f->settings), SCRATCH_PLANES, level,
+                             sharpness, sum);
+}
+
+/* The error sum of what scratch holds. */
+static uint64_t scratch_sum(const struct search *s)
+{
+    struct search left = *s;
+    uint64_t sum = 0;
+    for (int p = 0; p < 3; p++) {
+        left.frame.planes[p] = scratch[p];
+        left.frame.lengths[p] = SCRATCH[p];
+    }
+    expect(vp8lf_reconstruction_ssd(PLANES(&left.frame), SOURCE(&left), &sum) == VP8LF_OK, "the sum of scratch");
+    return sum;
+}
+
+/*
+ * The full search on the call of a search, which has left scratch: refused alike, and no sum is larger than that of the
+ * recorded pair. What it leaves in scratch has the sum that it answers.
+ */
+static void full(bool inter, const struct search *s, uint8_t refusal)
+{
+    static uint8_t before[3][4096];
+    uint8_t level = 77, sharpness = 77;
+    uint64_t sum = 78, searched = refusal ? 0 : scratch_sum(s);
+    memcpy(before, scratch, sizeof before);
+    expect(full_search(inter, s, &level, &sharpness, &sum) == refusal, "the refusal of the full search");
+    if (refusal) {
+        expect(level == 77 && sharpness == 77 && sum == 78, "an out-parameter of a refused full search");
+        expect(memcmp(before, scratch, sizeof before) == 0, "scratch of a refused full search");
+        return;
+    }
+    expect(level < 64 && sharpness < 8, "the pair of the full search");
+    expect(sum <= searched, "the sum of the full search, which is larger than that of the search");
+    expect(sum == scratch_sum(s), "the sum of what the full search leaves");
+    memcpy(scratch, before, sizeof before);
+}
+
 /* The sum, and the search for both or for the level alone, held to the answers that stand at the same place. */
 static void answers(bool inter, const struct search *s, bool both)
 {
@@ -398,6 +443,8 @@ static void answers(bool inter, const struct search *s, bool both)
     expect(level == (refusal ? 77 : recorded[1]), "the level");
     expect(sharpness == (refusal || !both ? 77 : recorded[2]), "the sharpness");
     expect(count == (refusal ? 78 : candidates), "the count");
+    if (both)
+        full(inter, s, refusal);
 }
 
 static struct search read_search(void)

@@ -357,26 +357,27 @@ static void final_rows(size_t mb_cols, size_t mb_rows, size_t start, long long n
 }
 
 /* A flat picture of one macroblock that equals its source: no candidate is better than leaving it alone. */
+static uint8_t flat[256], like[256], to_y[256], to_u[64], to_v[64];
+static const uint8_t zero[1] = {0};
+#define PICTURE flat, 256, flat, 64, flat, 64, 1, 1, 16, 8, like, 256, like, 64, like, 64, 16, 16, 16, 8
+#define SCRATCH to_y, 256, to_u, 64, to_v, 64
+
 static void search(void)
 {
-    static uint8_t plane[256], source[256], scratch_y[256], scratch_u[64], scratch_v[64];
-    const uint8_t zero[1] = {0};
     uint64_t sum = 99;
     uint8_t level = 99, sharpness = 99;
     size_t count = 99;
 #define SUM(width, height)                                                                                            \
-    vp8lf_reconstruction_ssd(plane, 256, plane, 64, plane, 64, 1, 1, 16, 8, source, 256, source, 64, source, 64,     \
-                             width, height, 16, 8, &sum)
+    vp8lf_reconstruction_ssd(flat, 256, flat, 64, flat, 64, 1, 1, 16, 8, like, 256, like, 64, like, 64, width,       \
+                             height, 16, 8, &sum)
     check("a source that is too wide", VP8LF_SOURCE_TOO_LARGE, SUM(17, 0));
     check("its sum", 99, (long long)sum);
     check("a source that is equal", VP8LF_OK, SUM(16, 16));
     check("its sum", 0, (long long)sum);
-    source[0] = 3;
+    like[0] = 3;
     check("a source that differs", VP8LF_OK, SUM(1, 1));
     check("its sum, 9 in each plane", 27, (long long)sum);
-    source[0] = 0;
-#define PICTURE plane, 256, plane, 64, plane, 64, 1, 1, 16, 8, source, 256, source, 64, source, 64, 16, 16, 16, 8
-#define SCRATCH scratch_y, 256, scratch_u, 64, scratch_v, 64
+    like[0] = 0;
 #define CHOSEN(call, wanted_sharpness)                                                                                \
     (level = 99, sharpness = 99, count = 99, check(#call, VP8LF_OK, call), check("its level", 0, level),             \
      check("its sharpness", wanted_sharpness, sharpness), check("its count", 19, (long long)count))
@@ -388,8 +389,26 @@ static void search(void)
     CHOSEN(vp8lf_select_filter_level_inter(PICTURE, zero, 1, zero, 1, zero, 1, zero, 1, zero, 1, AT_63(true), SCRATCH,
                                            &level, &count), 99);
     check("a scratch plane that is short", VP8LF_SHORT_PLANE,
-          vp8lf_select_filter_level(PICTURE, zero, 1, zero, 1, zero, 1, AT_63(true), scratch_y, 255, scratch_u, 64,
-                                    scratch_v, 64, &level, &count));
+          vp8lf_select_filter_level(PICTURE, zero, 1, zero, 1, zero, 1, AT_63(true), to_y, 255, to_u, 64, to_v, 64,
+                                    &level, &count));
+}
+
+static void full_search(void)
+{
+    uint64_t sum;
+    uint8_t level, sharpness;
+#define BEST_OF(call)                                                                                                 \
+    (level = 99, sharpness = 99, sum = 99, check(#call, VP8LF_OK, call), check("its level", 0, level),               \
+     check("its sharpness", 0, sharpness), check("its sum", 0, (long long)sum))
+    BEST_OF(vp8lf_full_search(PICTURE, zero, 1, zero, 1, zero, 1, AT_63(false), SCRATCH, &level, &sharpness, &sum));
+    BEST_OF(vp8lf_full_search_inter(PICTURE, zero, 1, zero, 1, zero, 1, zero, 1, zero, 1, AT_63(true), SCRATCH, &level,
+                                    &sharpness, &sum));
+    level = sharpness = 99;
+    sum = 99;
+    check("a scratch plane of a full search that is short", VP8LF_SHORT_PLANE,
+          vp8lf_full_search(PICTURE, zero, 1, zero, 1, zero, 1, AT_63(true), to_y, 256, to_u, 64, to_v, 63, &level,
+                            &sharpness, &sum));
+    check("what a refused call leaves", 3 * 99, level + sharpness + (long long)sum);
 }
 
 /* NULL with length 0 is an empty slice to every function of the library. */
@@ -425,11 +444,10 @@ static void null_kernels_and_passes(void)
 
 static void null_sums_and_searches(void)
 {
-    static uint8_t plane[256], to_y[256], to_u[64], to_v[64];
     uint64_t sum = 99;
     struct vp8lf_choice chosen = {99, 99, 99};
 #define NO_PLANES NO_BYTES, NO_BYTES, NO_BYTES
-#define PLANES plane, 256, plane, 64, plane, 64, 1, 1, 16, 8
+#define PLANES flat, 256, flat, 64, flat, 64, 1, 1, 16, 8
 #define BEST &chosen.level, &chosen.sharpness, &chosen.count
     check("a sum without a source", VP8LF_OK, vp8lf_reconstruction_ssd(PLANES, NO_PLANES, 0, 5, 0, 0, &sum));
     check("it", 0, (long long)sum);
@@ -458,6 +476,28 @@ static void null_sums_and_searches(void)
           vp8lf_select_filter_level_inter(NO_PLANES, 0, 0, 0, 0, NO_PLANES, 0, 0, 0, 0, NO_PLANES, NO_BYTES, NO_BYTES,
                                           AT_63(false), NO_PLANES, &chosen.level, &chosen.count));
     check("its candidates", 19, (long long)chosen.count);
+}
+
+static void null_full_searches(void)
+{
+    struct vp8lf_best best = {99, 99, 99};
+#define LEAST &best.level, &best.sharpness, &best.sum
+    check("a full search without scratch", VP8LF_SHORT_PLANE,
+          vp8lf_full_search(PLANES, NO_PLANES, 0, 0, 0, 0, NO_PLANES, AT_63(false), NO_PLANES, LEAST));
+    check("its sum", 99, (long long)best.sum);
+    check("a full search over a source without bytes", VP8LF_BAD_SOURCE,
+          vp8lf_full_search(PLANES, NO_PLANES, 1, 1, 1, 1, NO_PLANES, AT_63(false), to_y, 256, to_u, 64, to_v, 64,
+                            LEAST));
+    check("a full search without lists", VP8LF_OK,
+          vp8lf_full_search(PLANES, NO_PLANES, 0, 0, 0, 0, NO_PLANES, AT_63(false), to_y, 256, to_u, 64, to_v, 64,
+                            LEAST));
+    check("its level and sum", 0, best.level + (long long)best.sum);
+    best.level = 99;
+    best.sum = 99;
+    check("an inter full search without anything", VP8LF_OK,
+          vp8lf_full_search_inter(NO_PLANES, 0, 0, 0, 0, NO_PLANES, 0, 0, 0, 0, NO_PLANES, NO_BYTES, NO_BYTES,
+                                  AT_63(false), NO_PLANES, LEAST));
+    check("its level and sum", 0, best.level + (long long)best.sum);
 }
 
 static void refusal_texts(void)
@@ -693,6 +733,98 @@ static void searches_of_structs(unsigned bits)
                 vp8lf_search_level_inter(&planes, &source, &lists, &s, &lent, &chosen));
 }
 
+/* What the pass with a pair leaves of a frame, for level 0 the frame itself. */
+static struct frame filtered(bool inter, const struct frame *f, unsigned bits, uint8_t level, uint8_t sharpness)
+{
+    struct vp8lf_settings s = settings_of(bits);
+    struct frame left = *f;
+    struct vp8lf_planes planes = planes_of(&left);
+    struct vp8lf_lists lists = lists_of(f);
+    struct vp8lf_done done;
+    s.loop_filter_level = level;
+    s.sharpness_level = sharpness;
+    if (level > 0 && inter)
+        check("a candidate's pass", VP8LF_OK, vp8lf_filter_inter(&planes, &lists, &s, 0, 6, &done));
+    else if (level > 0)
+        check("a candidate's pass", VP8LF_OK, vp8lf_filter(&planes, &lists, &s, 0, 6, &done));
+    return left;
+}
+
+static uint64_t sum_of(struct frame left, const struct vp8lf_source *against)
+{
+    const struct vp8lf_planes planes = planes_of(&left);
+    uint64_t sum = 0;
+    check("a candidate's sum", VP8LF_OK, vp8lf_error_sum(&planes, against, &sum));
+    return sum;
+}
+
+/* The best of all pairs, and what its pass leaves, by the library's passes and sums. The settings' sharpness is 3. */
+static struct vp8lf_best best_of(bool inter, const struct frame *f, unsigned bits, struct frame *left)
+{
+    const struct vp8lf_source source = source_of(f);
+    struct vp8lf_best best = {0, 3, sum_of(*f, &source)};
+    for (unsigned i = 8; i < 64 * 8; i++) {
+        struct vp8lf_best tried = {(uint8_t)(i / 8), i % 8, 0};
+        tried.sum = sum_of(filtered(inter, f, bits, tried.level, tried.sharpness), &source);
+        if (tried.sum < best.sum)
+            best = tried;
+    }
+    *left = filtered(inter, f, bits, best.level, best.sharpness);
+    return best;
+}
+
+/* Where a frame has no sample of the grid: what scratch holds there stays. */
+static void keep_outside(struct frame *left, const struct frame *before)
+{
+    for (size_t i = 0; i < sizeof left->y; i++)
+        if (i % 50 >= 48)
+            left->y[i] = before->y[i];
+    for (size_t i = 0; i < sizeof left->v; i++)
+        if (i % 27 >= 24 || i >= 27 * 16) {
+            left->v[i] = before->v[i];
+            if (i < sizeof left->u)
+                left->u[i] = before->u[i];
+        }
+}
+
+static void same_best(const char *what, uint8_t came, const struct vp8lf_best *expected, struct vp8lf_best *best)
+{
+    check(what, VP8LF_OK, came);
+    check("its level", expected->level, best->level);
+    check("its sharpness", expected->sharpness, best->sharpness);
+    check("its sum", (long long)expected->sum, (long long)best->sum);
+    same_frame("its scratch", &wanted_scratch, &scratch);
+    best->level = best->sharpness = 99;
+    best->sum = 99;
+}
+
+/* The full search, and the same over structs, in scratch of other bytes. */
+static void full_searches_of_structs(unsigned bits, bool inter)
+{
+    const struct vp8lf_settings s = settings_of(bits);
+    struct frame f = uneven(), before = f;
+    const struct vp8lf_planes planes = planes_of(&f);
+    const struct vp8lf_source source = source_of(&f);
+    const struct vp8lf_lists lists = lists_of(&f);
+    struct vp8lf_scratch lent = scratch_of(&scratch);
+    const struct vp8lf_best expected = best_of(inter, &f, bits, &wanted_scratch);
+    struct vp8lf_best best = {99, 99, 99};
+    fill(before.y, sizeof before.y, 1, 3, 250);
+    fill(before.u, sizeof before.u, 2, 5, 250);
+    fill(before.v, sizeof before.v, 3, 7, 250);
+    keep_outside(&wanted_scratch, &before);
+    scratch = before;
+#define SEARCHED NUMBERS(bits), FRAME(scratch), &best.level, &best.sharpness, &best.sum
+    same_best("vp8lf_full_search",
+              inter ? vp8lf_full_search_inter(READ, FIVE(f), SEARCHED) : vp8lf_full_search(READ, THREE(f), SEARCHED),
+              &expected, &best);
+    scratch = before;
+    same_best("vp8lf_search_full",
+              inter ? vp8lf_search_full_inter(&planes, &source, &lists, &s, &lent, &best)
+                    : vp8lf_search_full(&planes, &source, &lists, &s, &lent, &best),
+              &expected, &best);
+}
+
 /* A plane or list that is NULL is empty, whatever its length says. */
 static void null_in_structs(void)
 {
@@ -704,6 +836,7 @@ static void null_in_structs(void)
     struct vp8lf_lists lists = lists_of(&f), no_lists = {.len = 6}, key_lists = lists;
     struct vp8lf_scratch lent = scratch_of(&scratch), no_scratch = lent;
     struct vp8lf_done done = {99, 99};
+    struct vp8lf_best best = {99, 99, 99};
     uint64_t sum = 99;
     no_source.u = NULL;
     no_scratch.v = NULL;
@@ -716,6 +849,9 @@ static void null_in_structs(void)
     check("a source plane that is NULL", VP8LF_BAD_SOURCE, vp8lf_error_sum(&planes, &no_source, &sum));
     check("a scratch plane that is NULL", VP8LF_SHORT_PLANE,
           vp8lf_search(&planes, &source, &lists, &s, &no_scratch, &chosen));
+    check("a scratch plane of a full search that is NULL", VP8LF_SHORT_PLANE,
+          vp8lf_search_full(&planes, &source, &lists, &s, &no_scratch, &best));
+    check("its sum", 99, (long long)best.sum);
 }
 
 static void structs(void)
@@ -726,6 +862,8 @@ static void structs(void)
         key_pass_of_structs(bits);
         inter_pass_of_structs(bits);
         searches_of_structs(bits);
+        full_searches_of_structs(bits, false);
+        full_searches_of_structs(bits, true);
     }
     short_planes_of_structs();
     rows_of_structs();
@@ -764,8 +902,10 @@ int main(void)
     final_rows(1025, 1, SIZE_MAX, VP8LF_GRID_TOO_LARGE, 99, 99);
     final_rows(0, SIZE_MAX, SIZE_MAX, VP8LF_OK, 0, 0);
     search();
+    full_search();
     null_kernels_and_passes();
     null_sums_and_searches();
+    null_full_searches();
     structs();
     if (failures > 0) {
         printf("header: %d of %d checks failed\n", failures, checks);

@@ -9,6 +9,7 @@ use Rattle.calls.specs.Answers.{Passed, passOutcome}
 use Rattle.calls.specs.FinalRows.{Rows}
 use Rattle.calls.specs.declared.answers.PassAnswer.{PassAnswer}
 use Rattle.search.specs.Search.{SearchCall, Choice, LevelChoice, searchAnswer, levelOnly, scratchAfter, Searched, LevelSearched}
+use Rattle.stills.specs.FullSearch.{FullChoice, fullAnswer, scratchAfterFull, FullSearched}
 use Rattle.loop_filter.specs.Returned.{
   outOf,
   Returned,
@@ -19,6 +20,8 @@ use Rattle.loop_filter.specs.Returned.{
   LevelReturned,
   SearchReturned,
   LevelSearchReturned,
+  FullChoiceReturned,
+  FullSearchReturned,
 }
 
 pub returned : {X : Type 0} {o o′ : Outcome X} {n : ℕ} {a b : X} → o ≡ o′ → Returned o n a b → Returned o′ n a b
@@ -74,4 +77,20 @@ pub level-searched : (W : Pass) (call : FrameFilterConfig → SearchCall W) {q q
 level-searched W call same s t = record {
   choice = level (s .answer ∙ ap (λ (q : FrameFilterConfig). levelOnly (searchAnswer W (call q))) same) t;
   scratch = s .scratch ∙ ap (λ (q : FrameFilterConfig). scratchAfter W (call q)) same;
+}
+
+pub full-choice : {o o′ : Outcome FullChoice} {n a b c d e f : ℕ} → o ≡ o′ → FullChoiceReturned o n a b c d e f → FullChoiceReturned o′ n a b c d e f
+full-choice {a = a} {b = b} {c = c} q r = record {
+  number = r .number ∙ ap numberOf q;
+  level = r .level ∙ ap (λ (o : Outcome FullChoice). outOf (λ (x : FullChoice). x .level) o a) q;
+  sharpness = r .sharpness ∙ ap (λ (o : Outcome FullChoice). outOf (λ (x : FullChoice). x .sharpness) o b) q;
+  sum = r .sum ∙ ap (λ (o : Outcome FullChoice). outOf (λ (x : FullChoice). x .sum) o c) q;
+}
+
+-- a full search whose settings crossed as numbers
+pub full-searched : (W : Pass) (call : FrameFilterConfig → SearchCall W) {q q′ : FrameFilterConfig} {o : Outcome FullChoice} {after : Planes} {n a b c d e f : ℕ}
+    → q ≡ q′ → FullSearched W (call q) o after → FullChoiceReturned o n a b c d e f → FullSearchReturned W (call q′) n after a b c d e f
+full-searched W call same s t = record {
+  choice = full-choice (s .answer ∙ ap (λ (q : FrameFilterConfig). fullAnswer W (call q)) same) t;
+  scratch = s .scratch ∙ ap (λ (q : FrameFilterConfig). scratchAfterFull W (call q)) same;
 }

@@ -6,6 +6,7 @@ use Rattle.planes.specs.Planes.{Planes}
 use Rattle.calls.specs.Pass.{Pass, Call, Progress, answer, planesAfter}
 use Rattle.calls.specs.FinalRows.{Rows}
 use Rattle.search.specs.Search.{SearchCall, Choice, LevelChoice, searchAnswer, levelOnly, scratchAfter}
+use Rattle.stills.specs.FullSearch.{FullChoice, fullAnswer, scratchAfterFull}
 
 -- an out-parameter: f of what the call gives, or the value before where it refuses
 unfoldable pub outOf : {X Y : Type 0} → (f : X → Y) → Outcome X → (before : Y) → Y
@@ -55,3 +56,14 @@ pub record SearchReturned (W : Pass) (a : SearchCall W) (r : ℕ) (after : Plane
 pub record LevelSearchReturned (W : Pass) (a : SearchCall W) (r : ℕ) (after : Planes) (level₀ count₀ level₁ count₁ : ℕ) : Type 0 where
   pub choice : LevelReturned (levelOnly (searchAnswer W a)) r level₀ count₀ level₁ count₁
   pub scratch : after ≡ scratchAfter W a
+
+-- a full search
+pub record FullChoiceReturned (o : Outcome FullChoice) (r level₀ sharpness₀ sum₀ level₁ sharpness₁ sum₁ : ℕ) : Type 0 where
+  pub number : r ≡ numberOf o
+  pub level : level₁ ≡ outOf (λ (c : FullChoice). c .level) o level₀
+  pub sharpness : sharpness₁ ≡ outOf (λ (c : FullChoice). c .sharpness) o sharpness₀
+  pub sum : sum₁ ≡ outOf (λ (c : FullChoice). c .sum) o sum₀
+
+pub record FullSearchReturned (W : Pass) (a : SearchCall W) (r : ℕ) (after : Planes) (level₀ sharpness₀ sum₀ level₁ sharpness₁ sum₁ : ℕ) : Type 0 where
+  pub choice : FullChoiceReturned (fullAnswer W a) r level₀ sharpness₀ sum₀ level₁ sharpness₁ sum₁
+  pub scratch : after ≡ scratchAfterFull W a

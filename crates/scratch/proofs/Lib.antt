@@ -1,4 +1,5 @@
 -- The laws of the definitions of this crate.
 pub mod CopyLaws
+pub mod AlikeLaws
 pub mod SameGrid
 pub mod Passes

@@ -11,15 +11,14 @@ use Rattle.planes.specs.GridRefusals.{zeroGrid, tooLarge, badStrides, shortPlan
 use Rattle.calls.specs.Pass.{Pass, Call, Progress, refusal, answer, count, next, planesAfter}
 use Rattle.sums.specs.Source.{Source, sourceTooLarge, badSource}
 use Rattle.sums.specs.Sums.{errorSum, pastSource, sumTooLarge, sumRefusal, sumAnswer}
-use Rattle.search.specs.Search.{SearchCall, score, search, anyTooLarge, pastEntries, searchRefusal, searchAnswer, scratchAfter, Searched}
+use Rattle.search.specs.Search.{SearchCall, score, search, anyTooLarge, pastEntries, searchRefusal, unfilteredAnswer, Unfiltered}
 use Rattle.sums.specs.Answers.{searchRefusalNumber}
 use Rattle.sums.specs.declared.answers.SearchRefusal.{SearchRefusal}
-use Rattle.search.specs.Answers.{paramsOutcome}
 use Rattle.scratch.proofs.Passes.{none-allowed}
 use Rattle.planes.proofs.PastGrid.{grid-none}
-use Rattle.search.specs.Private.SearchCode.{Ready, judgedOf}
+use Rattle.search.specs.Private.Ready.{Ready}
+use Rattle.search.specs.Private.SearchCode.{judgedOf}
 use Rattle.sums.proofs.SumRefusals.{judged as judged-sum}
-use Rattle.search.specs.declared.answers.ParamsAnswer.the-variants as params
 use Rattle.search.specs.declared.refusal.Judged.{Judged}
 use Rattle.search.specs.declared.refusal.Judged.the-variants.{Refused, Accepted}
 
@@ -114,12 +113,12 @@ module _ (W : Pass) (a : SearchCall W) where
         ((er ∙ ap numberOf ey ∙ number-is (sumRefusal (a .grid) (a .reconstruction) (a .source)) (errorSum (a .grid) (a .reconstruction) (a .source))) i))))
         (judged-numbers small)
 
-    pub judged-refused : (w : SearchRefusal) → j ≡ Refused w → (after : Planes) → after ≡ planesAfter W probe → Searched W a (paramsOutcome (params.Refused w)) after
-    unfolding searchAnswer scratchAfter paramsOutcome
+    pub judged-refused : (w : SearchRefusal) → j ≡ Refused w → (after : Planes) → after ≡ planesAfter W probe → Unfiltered W a (refuses (searchRefusalNumber w)) after
+    unfolding unfilteredAnswer
     judged-refused w e after ea =
         let (o, p) = said (subst (λ (k : Judged). Judges k (searchRefusal W a)) e judged) in
         let n : eqb (searchRefusal W a) 0 ≡ false = ne-eqb (searchRefusal W a) 0 (λ z. omega arith) in
-        record { answer = rw n (ap refuses o); scratch = rw n (ea ∙ probe-keeps) }
+        record { answer = rw n (ap refuses o); scratch = ea ∙ probe-keeps }
       where
         said : Judges (Refused w) (searchRefusal W a) → (searchRefusalNumber w ≡ searchRefusal W a) × (0 < searchRefusal W a)
         said k = told w (searchRefusal W a) k

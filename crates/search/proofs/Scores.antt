@@ -3,22 +3,22 @@ use mathlib.Core.Path.{_≡_, refl, sym, ap, _∙_}
 use mathlib.Core.List.{List, [], _∷_}
 use Prim.Native.Nat.{ℕ}
 use native.Mathlib.Omega.{arith}
-use lib.ListN.{length, getD}
+use lib.ListN.{getD}
 use mir.Syntax.{w8}
 use mir.Val.{Fits}
 use denote.Enum.Declared.{tagOf}
 use types.Run.{OneOf}
 use Rattle.arithmetic.specs.Outcome.{gives}
-use Rattle.planes.specs.Planes.{luma, chromaU, chromaV, Planes, Grid, plane}
+use Rattle.planes.specs.Planes.{luma, chromaU, chromaV, Planes}
 use Rattle.planes.specs.Layout.{planesOf}
 use Rattle.calls.specs.Pass.{Pass}
-use Rattle.sums.specs.Sums.{errorSum, sumAnswer}
+use Rattle.sums.specs.Sums.{errorSum}
 use Rattle.planes.specs.GridRefusals.{pastGrid}
 use Rattle.sums.specs.Bytes.{Bytes, BytePlanes}
-use Rattle.scratch.specs.Copies.{copyGrid}
+use Rattle.scratch.specs.Copies.{copyGrid, copiedGrid}
 use Rattle.search.specs.Candidates.{Candidate}
-use Rattle.search.specs.Search.{SearchCall, planesOfCandidate, score}
-use Rattle.search.specs.Private.SearchCode.{Ready, Alike}
+use Rattle.search.specs.Search.{SearchCall, candidatePlanes, planesOfCandidate, score, CandidateSummed}
+use Rattle.search.specs.Private.Ready.{Ready}
 use Rattle.sums.specs.Answers.{sumOutcome}
 use Rattle.sums.specs.declared.answers.SumAnswer.{SumAnswer}
 use Rattle.sums.specs.declared.answers.SumAnswer.the-variants.{Sum, Refused}
@@ -26,8 +26,10 @@ use Rattle.sums.proofs.answers.SumAnswer.{the-type}
 use Rattle.sums.proofs.SumLaws.{not-sum}
 use Rattle.sums.proofs.SumRefusals.{ends-fit}
 use Rattle.sums.proofs.SumBounds.{sum-fits}
+use Rattle.planes.proofs.PastGrid.{past-lengths}
+use Rattle.search.proofs.CandidateLaws.{candidate-length}
 use Rattle.search.proofs.CopiedSums.{sum-copy}
-use Rattle.scratch.proofs.CopyLaws.{copied-length, copy-copy, copy-past}
+use Rattle.scratch.proofs.CopyLaws.{copied, copy-past}
 
 pub byte-planes : (y u v : List ℕ) → ((i : ℕ) → Fits w8 (getD y i 0)) → ((i : ℕ) → Fits w8 (getD u i 0)) → ((i : ℕ) → Fits w8 (getD v i 0)) → BytePlanes (planesOf y u v)
 unfolding BytePlanes Bytes
@@ -45,30 +47,33 @@ pub sum-given : (m n : ℕ) → sumOutcome (Sum m) ≡ gives n → m ≡ n
 unfolding sumOutcome
 sum-given m n e = cc
 
-pub alike-copy : (g : Grid) (x t after : Planes) → pastGrid g t 0 ≡ 0 → after ≡ copyGrid g x t → Alike g t after
-alike-copy g x t after e h = record {
-  over = λ p. ap (copyGrid g p) h ∙ copy-copy g p x t e;
-  same = ap (λ (z : Planes). pastGrid g z 0) h ∙ copy-past g x t;
-  lengths = λ q. ap (λ (z : Planes). length (plane q z)) h ∙ copied-length g x t q;
-}
+-- a pass keeps the lengths, so that a candidate is refused where the reconstruction is
+pub candidate-past : (W : Pass) (a : SearchCall W) (c : Candidate) (rest : ℕ) → pastGrid (a .grid) (planesOfCandidate W a c) rest ≡ pastGrid (a .grid) (a .reconstruction) rest
+unfolding planesOfCandidate
+candidate-past W a c rest =
+    past-lengths (a .grid) (candidatePlanes W (a .grid) (a .settings) (a .carried) (a .reconstruction) c) (a .reconstruction) rest
+    (candidate-length W (a .grid) (a .settings) (a .carried) (a .reconstruction) c)
 
-pub alike-self : (g : Grid) (t : Planes) → Alike g t t
-alike-self g t = record { over = λ p. refl; same = refl; lengths = λ q. refl }
+pub candidate-made : (W : Pass) (a : SearchCall W) (c : Candidate) (t after : Planes) → pastGrid (a .grid) (a .reconstruction) 0 ≡ 0 → pastGrid (a .grid) t 0 ≡ 0
+    → after ≡ copiedGrid (a .grid) (planesOfCandidate W a c) t → after ≡ copyGrid (a .grid) (planesOfCandidate W a c) t
+candidate-made W a c t after ep et e = e ∙ copied (a .grid) (planesOfCandidate W a c) t (candidate-past W a c 0 ∙ ep) et
 
-pub alike-then : (g : Grid) (r s t : Planes) → Alike g r s → Alike g s t → Alike g r t
-alike-then g r s t a b = record { over = λ p. b .over p ∙ a .over p; same = b .same ∙ a .same; lengths = λ q. b .lengths q ∙ a .lengths q }
+-- ---- a candidate that was made and summed in scratch planes
 
-module _ (W : Pass) (a : SearchCall W) (ready : Ready W a) (c : Candidate) (after : Planes) (e : after ≡ copyGrid (a .grid) (planesOfCandidate W a c) (a .scratch))
-    (bytes : BytePlanes after) (source : BytePlanes (a .source .samples)) (r : SumAnswer) (h : sumOutcome r ≡ sumAnswer (a .grid) after (a .source)) where
-  given : sumOutcome r ≡ gives (score W a c)
-  unfolding score
-  given =
-      let past : pastGrid (a .grid) after 0 ≡ 0 = ap (λ (z : Planes). pastGrid (a .grid) z 0) e ∙ copy-past (a .grid) (planesOfCandidate W a c) (a .scratch) ∙ ready .scratch in
-      h ∙ sym (ends-fit (a .grid) after (a .source) past (ready .source) (sum-fits (a .grid) after (a .source) bytes source past (ready .source)))
-      ∙ ap gives (ap (λ (z : Planes). errorSum (a .grid) z (a .source)) e ∙ sum-copy (a .grid) (planesOfCandidate W a c) (a .scratch) (a .source) (ready .scratch) (ready .source))
+module _ (W : Pass) (a : SearchCall W) (ready : Ready W a) (c : Candidate) (r : SumAnswer) (after : Planes) (h : CandidateSummed W a c (sumOutcome r) after) where
+  pub made : after ≡ copyGrid (a .grid) (planesOfCandidate W a c) (a .scratch)
+  made = candidate-made W a c (a .scratch) after (ready .planes) (ready .scratch) (h .scratch)
 
-  pub scored-sum : (m : ℕ) → r ≡ Sum m → m ≡ score W a c
-  scored-sum m q = sum-given m (score W a c) (ap sumOutcome (sym q) ∙ given)
+  module _ (bytes : BytePlanes after) (source : BytePlanes (a .source .samples)) where
+    given : sumOutcome r ≡ gives (score W a c)
+    unfolding score
+    given =
+        let past : pastGrid (a .grid) after 0 ≡ 0 = ap (λ (z : Planes). pastGrid (a .grid) z 0) made ∙ copy-past (a .grid) (planesOfCandidate W a c) (a .scratch) ∙ ready .scratch in
+        h .answer ∙ sym (ends-fit (a .grid) after (a .source) past (ready .source) (sum-fits (a .grid) after (a .source) bytes source past (ready .source)))
+        ∙ ap gives (ap (λ (z : Planes). errorSum (a .grid) z (a .source)) made ∙ sum-copy (a .grid) (planesOfCandidate W a c) (a .scratch) (a .source) (ready .scratch) (ready .source))
 
-  pub scored-always : OneOf (1 ∷ []) (tagOf the-type r) → ⊥
-  scored-always k = gives-sum r (score W a c) given (not-sum r k)
+    pub scored-sum : (m : ℕ) → r ≡ Sum m → m ≡ score W a c
+    scored-sum m q = sum-given m (score W a c) (ap sumOutcome (sym q) ∙ given)
+
+    pub scored-always : OneOf (1 ∷ []) (tagOf the-type r) → ⊥
+    scored-always k = gives-sum r (score W a c) given (not-sum r k)

@@ -14,9 +14,12 @@ use Rattle.planes.specs.Layout.{gridOf}
 use Rattle.calls.specs.Pass.{Pass, keyPass, interPass, planesAfter}
 use Rattle.planes.specs.declared.layout.PlaneLayout.{PlaneLayout}
 use Rattle.sums.specs.Source.{Source}
-use Rattle.sums.specs.Sums.{errorSum, pastSource, sumTooLarge}
-use Rattle.scratch.specs.Copies.{copyGrid}
+use Rattle.sums.specs.Sums.{errorSum, pastSource, sumTooLarge, sumAnswer}
+use Rattle.sums.specs.Source.{sourceOf}
+use Rattle.scratch.specs.Copies.{copyGrid, copiedGrid}
+use Rattle.scratch.specs.EitherPass.{passOf, carriedOf}
 use Rattle.search.specs.Candidates.{Candidate, Standing, aboveZero, searched}
+use Rattle.search.specs.declared.candidates.Setup.{Setup}
 
 -- the arguments of one call
 pub record SearchCall (W : Pass) : Type 0 where
@@ -33,6 +36,17 @@ keySearch layout settings l p t s = record { grid = gridOf layout; settings = se
 
 abbrev pub interSearch : PlaneLayout → FrameFilterConfig → InterLists → (reconstruction scratch : Planes) → Source → SearchCall interPass
 interSearch layout settings l p t s = record { grid = gridOf layout; settings = settings; carried = InterCarried.byteLists l; reconstruction = p; scratch = t; source = s }
+
+-- the call that a setup and slices make, of the pass that the setup's mark names
+abbrev pub setupCall : (o : Setup) (reconstruction scratch : Planes) (modes segments flags references interModes : List ℕ) (y u v : List ℕ) → SearchCall (passOf (o .«inter»))
+setupCall o p t m s f r i y u v = record {
+  grid = gridOf (o .«layout»);
+  settings = o .«config»;
+  carried = carriedOf (o .«inter») m s f r i;
+  reconstruction = p;
+  scratch = t;
+  source = sourceOf (o .«width») (o .«height») y u v (o .«y_stride») (o .«uv_stride»);
+}
 
 -- the settings with a candidate's level and sharpness
 unfoldable pub settingsAt : FrameFilterConfig → Candidate → FrameFilterConfig
@@ -97,6 +111,11 @@ searchRefusal W a =
     (pastEntries W a
     (cond (anyTooLarge (score W a) (search W a .scored)) 10 0))))
 
+-- the unfiltered sum, or the number of the search's refusal
+unfoldable pub unfilteredAnswer : (W : Pass) → SearchCall W → Outcome ℕ
+unfilteredAnswer W a =
+    cond (eqb (searchRefusal W a) 0) (gives (errorSum (a .grid) (a .reconstruction) (a .source))) (refuses (searchRefusal W a))
+
 -- what is chosen, and the number of candidates scored at a level above 0
 pub record Choice : Type 0 where
   pub level : ℕ
@@ -124,7 +143,19 @@ unfoldable pub levelOnly : Outcome Choice → Outcome LevelChoice
 levelOnly (gives c) = gives (record { level = c .level; count = c .count })
 levelOnly (refuses n) = refuses n
 
--- ---- what a search promises of its answer and of the scratch planes
+-- ---- what is promised of an answer and of the scratch planes after it
+
+-- the unfiltered sum, or the refusal: the scratch planes stay
+pub record Unfiltered (W : Pass) (a : SearchCall W) (r : Outcome ℕ) (after : Planes) : Type 0 where
+  pub answer : r ≡ unfilteredAnswer W a
+  pub scratch : after ≡ a .scratch
+
+-- the candidate in the scratch planes, where 1, 2 and 3 refuse neither the planes nor these, and the error sum of these
+pub record CandidateSummed (W : Pass) (a : SearchCall W) (c : Candidate) (r : Outcome ℕ) (after : Planes) : Type 0 where
+  pub answer : r ≡ sumAnswer (a .grid) after (a .source)
+  pub scratch : after ≡ copiedGrid (a .grid) (planesOfCandidate W a c) (a .scratch)
+
+-- a search
 pub record Searched (W : Pass) (a : SearchCall W) (r : Outcome Choice) (after : Planes) : Type 0 where
   pub answer : r ≡ searchAnswer W a
   pub scratch : after ≡ scratchAfter W a

@@ -2,33 +2,96 @@
 use crate::answers::LevelOnlyAnswer;
 use crate::answers::ParamsAnswer;
 use crate::candidates::Setup;
+use crate::candidates::base_sharpness;
+use crate::candidates::candidate_sum;
 use crate::candidates::make_candidate;
-use crate::candidates::try_candidate;
-use crate::refusal::Judged;
-use crate::refusal::judge_search;
-use crate::refusal::pass_number;
-use crate::refusal::sum_number;
 use crate::trials::Best;
 use crate::trials::TRIALS;
-use crate::trials::base_sharpness;
+use crate::trials::Trial;
 use crate::trials::next_trial;
 use crate::trials::note_winner;
+use crate::trials::take;
+use crate::unfiltered::unfiltered_sum;
 use levels::config::FrameFilterConfig;
 use planes::layout::PlaneLayout;
-use scratch::either::either_pass;
-use sums::answers::SearchRefusal;
 use sums::answers::SumAnswer;
-use sums::sums::reconstruction_ssd;
 ghost use mathlib.Core.Path.{_≡_};
+ghost use Prim.Native.Nat.{_<_};
 ghost use Rattle.planes.specs.Layout.{gridOf, planesOf};
 ghost use Rattle.calls.specs.Pass.{keyPass, interPass};
 ghost use Rattle.calls.specs.PassCalls.{keyLists, interLists};
 ghost use Rattle.sums.specs.Source.{sourceOf};
 ghost use Rattle.sums.specs.Sums.{errorSum};
 ghost use Rattle.scratch.specs.EitherPass.{passOf};
-ghost use Rattle.search.specs.Search.{keySearch, interSearch, Searched, LevelSearched, levelOnly};
+ghost use Rattle.search.specs.Search.{setupCall, keySearch, interSearch, Searched, LevelSearched, levelOnly};
 ghost use Rattle.search.specs.Answers.{paramsOutcome, levelOnlyOutcome};
-ghost use Rattle.search.specs.Private.SearchCode.{callOf, Ready, AllTried, Ended};
+ghost use Rattle.search.specs.Private.SearchCode.{Tried, AllTried, Ended};
+ghost use Rattle.search.specs.Private.Ready.{Ready};
+
+// A trial: a candidate is scored and taken if it is better, or passed over.
+fn try_candidate<'s>(
+    y: &[u8],
+    u: &[u8],
+    v: &[u8],
+    scratch_y: &mut [u8],
+    scratch_u: &mut [u8],
+    scratch_v: &mut [u8],
+    modes: &[u8],
+    segments: &[u8],
+    flags: &[u8],
+    references: &[u8],
+    inter_modes: &[u8],
+    setup: Setup,
+    best: Best,
+    trial: Trial,
+    src_y: &'s [u8],
+    src_u: &'s [u8],
+    src_v: &'s [u8],
+) -> Best
+    requires { ⌜ Ready (passOf (setup .«inter»))
+        (setupCall setup
+        (planesOf (now y) (now u) (now v))
+        (planesOf (now «scratch_y») (now «scratch_u») (now «scratch_v»))
+        (now modes) (now segments) (now flags) (now references) (now «inter_modes»)
+        (now «src_y») (now «src_u») (now «src_v»)) ⌝ }
+    requires { ⌜ best .«count» < 100 ⌝ }
+    ensures { λ r. ⌜ Tried (passOf (setup .«inter»))
+        (setupCall setup
+        (planesOf (now (y .entry)) (now (u .entry)) (now (v .entry)))
+        (planesOf (now («scratch_y» .entry)) (now («scratch_u» .entry)) (now («scratch_v» .entry)))
+        (now (modes .entry)) (now (segments .entry)) (now (flags .entry)) (now (references .entry)) (now («inter_modes» .entry))
+        (now («src_y» .entry)) (now («src_u» .entry)) (now («src_v» .entry)))
+        trial best r
+        (planesOf (now («scratch_y» .exit)) (now («scratch_u» .exit)) (now («scratch_v» .exit))) ⌝ }
+{
+    if trial.skip {
+        return best;
+    }
+    let level = trial.level;
+    let sharpness = trial.sharpness;
+    let SumAnswer::Sum(sum) = candidate_sum(
+        y,
+        u,
+        v,
+        scratch_y,
+        scratch_u,
+        scratch_v,
+        modes,
+        segments,
+        flags,
+        references,
+        inter_modes,
+        setup,
+        level,
+        sharpness,
+        src_y,
+        src_u,
+        src_v,
+    ) else {
+        return best;
+    };
+    take(best, level, sharpness, sum)
+}
 
 // The trials, one after the other.
 fn search_trials<'s>(
@@ -51,14 +114,14 @@ fn search_trials<'s>(
     src_v: &'s [u8],
 ) -> Best
     requires { ⌜ Ready (passOf (setup .«inter»))
-        (callOf setup
+        (setupCall setup
         (planesOf (now y) (now u) (now v))
         (planesOf (now «scratch_y») (now «scratch_u») (now «scratch_v»))
         (now modes) (now segments) (now flags) (now references) (now «inter_modes»)
         (now «src_y») (now «src_u») (now «src_v»)) ⌝ }
     requires { ⌜ start .«count» ≡ 0 ⌝ }
     ensures { λ r. ⌜ AllTried (passOf (setup .«inter»))
-        (callOf setup
+        (setupCall setup
         (planesOf (now (y .entry)) (now (u .entry)) (now (v .entry)))
         (planesOf (now («scratch_y» .entry)) (now («scratch_u» .entry)) (now («scratch_v» .entry)))
         (now (modes .entry)) (now (segments .entry)) (now (flags .entry)) (now (references .entry)) (now («inter_modes» .entry))
@@ -115,7 +178,7 @@ fn search_all<'s>(
     src_v: &'s [u8],
 ) -> Best
     requires { ⌜ Ready (passOf (setup .«inter»))
-        (callOf setup
+        (setupCall setup
         (planesOf (now y) (now u) (now v))
         (planesOf (now «scratch_y») (now «scratch_u») (now «scratch_v»))
         (now modes) (now segments) (now flags) (now references) (now «inter_modes»)
@@ -124,7 +187,7 @@ fn search_all<'s>(
         (planesOf (now y) (now u) (now v))
         (sourceOf (setup .«width») (setup .«height») (now «src_y») (now «src_u») (now «src_v») (setup .«y_stride») (setup .«uv_stride»)) ⌝ }
     ensures { λ r. ⌜ Ended (passOf (setup .«inter»))
-        (callOf setup
+        (setupCall setup
         (planesOf (now (y .entry)) (now (u .entry)) (now (v .entry)))
         (planesOf (now («scratch_y» .entry)) (now («scratch_u» .entry)) (now («scratch_v» .entry)))
         (now (modes .entry)) (now (segments .entry)) (now (flags .entry)) (now (references .entry)) (now («inter_modes» .entry))
@@ -132,8 +195,7 @@ fn search_all<'s>(
         r
         (planesOf (now («scratch_y» .exit)) (now («scratch_u» .exit)) (now («scratch_v» .exit))) ⌝ }
 {
-    let config = setup.config;
-    let base = base_sharpness(config.sharpness_level);
+    let base = base_sharpness(setup.config);
     let start = Best {
         level: 0,
         sharpness: base,
@@ -179,7 +241,7 @@ fn search_all<'s>(
     best
 }
 
-// Either search. The pass with allowance 0 changes nothing, and judges the scratch planes and the lists.
+// Either search.
 fn select_params<'s>(
     y: &[u8],
     u: &[u8],
@@ -198,7 +260,7 @@ fn select_params<'s>(
     src_v: &'s [u8],
 ) -> ParamsAnswer
     ensures { λ r. ⌜ Searched (passOf (setup .«inter»))
-        (callOf setup
+        (setupCall setup
         (planesOf (now (y .entry)) (now (u .entry)) (now (v .entry)))
         (planesOf (now («scratch_y» .entry)) (now («scratch_u» .entry)) (now («scratch_v» .entry)))
         (now (modes .entry)) (now (segments .entry)) (now (flags .entry)) (now (references .entry)) (now («inter_modes» .entry))
@@ -206,43 +268,7 @@ fn select_params<'s>(
         (paramsOutcome r)
         (planesOf (now («scratch_y» .exit)) (now («scratch_u» .exit)) (now («scratch_v» .exit))) ⌝ }
 {
-    let layout = setup.layout;
-    let config = setup.config;
-    let pass = either_pass(
-        scratch_y,
-        scratch_u,
-        scratch_v,
-        modes,
-        segments,
-        flags,
-        references,
-        inter_modes,
-        layout,
-        config,
-        setup.inter,
-        0,
-        0,
-    );
-    let unfiltered = reconstruction_ssd(
-        y,
-        u,
-        v,
-        layout,
-        setup.width,
-        setup.height,
-        src_y,
-        src_u,
-        src_v,
-        setup.y_stride,
-        setup.uv_stride,
-    );
-    if let Judged::Refused(refusal) = judge_search(pass_number(pass), sum_number(unfiltered)) {
-        return ParamsAnswer::Refused(refusal);
-    }
-    let SumAnswer::Sum(sum) = unfiltered else {
-        return ParamsAnswer::Refused(SearchRefusal::SumTooLarge);
-    };
-    let best = search_all(
+    let unfiltered = unfiltered_sum(
         y,
         u,
         v,
@@ -255,15 +281,37 @@ fn select_params<'s>(
         references,
         inter_modes,
         setup,
-        sum,
         src_y,
         src_u,
         src_v,
     );
-    ParamsAnswer::Chosen {
-        level: best.level,
-        sharpness: best.sharpness,
-        count: best.count,
+    match unfiltered {
+        SumAnswer::Refused(refusal) => ParamsAnswer::Refused(refusal),
+        SumAnswer::Sum(sum) => {
+            let best = search_all(
+                y,
+                u,
+                v,
+                scratch_y,
+                scratch_u,
+                scratch_v,
+                modes,
+                segments,
+                flags,
+                references,
+                inter_modes,
+                setup,
+                sum,
+                src_y,
+                src_u,
+                src_v,
+            );
+            ParamsAnswer::Chosen {
+                level: best.level,
+                sharpness: best.sharpness,
+                count: best.count,
+            }
+        }
     }
 }
 

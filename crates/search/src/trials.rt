@@ -1,14 +1,12 @@
 // The trials of a search, in document 01's order, and what each makes of the best candidate so far. `specs/Private/SearchCode.antt` says each as a definition.
 ghost use mathlib.Core.Path.{_≡_};
-ghost use Prim.Native.Nat.{_+_, _<_, min};
+ghost use Prim.Native.Nat.{_+_, _<_};
 ghost use mathlib.Core.Bool.{cond};
 ghost use lib.Dec.{eqb};
 ghost use Rattle.search.specs.Candidates.{near};
 ghost use Rattle.search.specs.Private.SearchCode.{coarseAt, trialOf, taken, withWinner};
 
 const HIGHEST_LEVEL: u8 = 63;
-
-const HIGHEST_SHARPNESS: u8 = 7;
 
 // Trials 0 to 15 are the coarse levels.
 const COARSE_END: usize = 16;
@@ -33,17 +31,6 @@ pub struct Trial {
     pub level: u8,
     pub sharpness: u8,
     pub skip: bool,
-}
-
-// The lesser of its own and 7.
-pub(crate) fn base_sharpness(own: u8) -> u8
-    ensures { λ r. ⌜ r ≡ min own 7 ⌝ }
-{
-    if own < HIGHEST_SHARPNESS {
-        own
-    } else {
-        HIGHEST_SHARPNESS
-    }
 }
 
 // 4, 8 to 60, 63.

@@ -1,12 +1,12 @@
-//! Times both passes and the search of the library against the Rust's on the recorded frames for timing, in one run and
-//! in turn, and prints each smallest time of the library as a part of the Rust's smallest time; then how the time of a
-//! pass grows with the grid, and what halting costs a caller of the Rust crate.
+//! Times both passes, the search and the full search of the library against the Rust's on the recorded frames for timing,
+//! in one run and in turn, and prints each smallest time of the library as a part of the Rust's smallest time; then how
+//! the time of a pass grows with the grid, and what halting costs a caller of the Rust crate.
 //!
 //! The level is forced: every macroblock has it, whatever its segment, reference and mode. "Rows" halts after each row
 //! of macroblocks.
 //!
 //! `--noise AMPLITUDE` adds uniform noise to the frames first. `--libvpx` times the passes against libvpx's SSE2 filters
-//! instead.
+//! instead; `--halting` and `--full-search` time these alone.
 
 mod growth;
 mod halting;
@@ -18,7 +18,7 @@ mod search;
 use entries::bytes::Records;
 use entries::{Layout, Lists, Pass};
 use film::Frame;
-use options::Options;
+use options::{Options, Part};
 use oracle::{FrameFilterConfig, KeyframePlanes};
 use std::fmt;
 use std::process::ExitCode;
@@ -27,29 +27,32 @@ use std::time::{Duration, Instant};
 const LEVELS: [u8; 3] = [8, 24, 48];
 
 fn main() -> ExitCode {
-    let Some(Options { repetitions, noise, libvpx, halting }) = Options::read(std::env::args().skip(1)) else {
+    let Some(Options { repetitions, noise, part }) = Options::read(std::env::args().skip(1)) else {
         eprintln!("{}", options::USAGE);
         return ExitCode::from(2);
     };
     let mut frames = film::bench();
     noise::add(&mut frames, noise);
-    if libvpx {
-        libvpx::compare(&frames, repetitions);
-        return ExitCode::SUCCESS;
+    match part {
+        Part::All => all(&frames, repetitions),
+        Part::Libvpx => libvpx::compare(&frames, repetitions),
+        Part::Halting => halting::compare(&frames, repetitions),
+        Part::FullSearch => searches(&frames, |frame, simple| search::compare_full(frame, simple, repetitions)),
     }
-    if halting {
-        halting::compare(&frames, repetitions);
-        return ExitCode::SUCCESS;
-    }
-    passes(&frames, repetitions);
-    for frame in &frames {
-        for simple in [false, true] {
-            search::compare(frame, simple, repetitions.min(5));
-        }
-    }
-    growth::compare(frames.iter().find(|frame| frame.config().key_frame).expect("a key frame"), repetitions);
-    halting::compare(&frames, repetitions);
     ExitCode::SUCCESS
+}
+
+fn all(frames: &[Frame], repetitions: usize) {
+    passes(frames, repetitions);
+    searches(frames, |frame, simple| search::compare(frame, simple, repetitions.min(5)));
+    searches(frames, |frame, simple| search::compare_full(frame, simple, repetitions.min(3)));
+    growth::compare(frames.iter().find(|frame| frame.config().key_frame).expect("a key frame"), repetitions);
+    halting::compare(frames, repetitions);
+}
+
+/// Each frame with the normal and with the simple filter.
+fn searches(frames: &[Frame], compare: impl Fn(&Frame, bool)) {
+    frames.iter().flat_map(|frame| [(frame, false), (frame, true)]).for_each(|(frame, simple)| compare(frame, simple));
 }
 
 /// Prints the table of the passes and the geometric means of its ratios.

@@ -14,6 +14,7 @@ mod kernels;
 mod levels;
 mod limits;
 mod numbers;
+mod pairs;
 mod passes;
 mod pictures;
 mod reach;
@@ -26,6 +27,7 @@ mod slices;
 mod smaller_call;
 mod soak;
 mod sources;
+mod stills;
 mod tally;
 mod vast;
 mod windows;
@@ -56,6 +58,7 @@ const MODULES: &[(&str, Comparison)] = &[
     ("film", recorded::compare),
     ("search", search::compare),
     ("sources", sources::compare),
+    ("stills", stills::compare),
     ("vast", vast::compare),
 ];
 

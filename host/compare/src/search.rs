@@ -11,6 +11,7 @@ use crate::settings;
 use crate::shrink::{Cases, shrink};
 use crate::soak::{Calls, Draw};
 use crate::tally::{Kind, Tally};
+use film::Frame;
 use oracle::{InterFilterInfo, KeyframePlanes, SourcePlanes, loop_filter};
 use rules::random::Random;
 use std::fmt;
@@ -122,11 +123,11 @@ impl Memory {
 }
 
 impl Search {
-    fn has_grid(&self) -> bool {
+    pub fn has_grid(&self) -> bool {
         self.call.layout.has_grid()
     }
 
-    fn right_lengths(&self) -> bool {
+    pub fn right_lengths(&self) -> bool {
         let n = self.call.macroblocks();
         self.call.lists_read().iter().all(|list| list.len() == n)
     }
@@ -145,7 +146,7 @@ impl Search {
     }
 
     /// Document 01's conditions in the order of a search.
-    fn refusal(&self) -> u8 {
+    pub fn refusal(&self) -> u8 {
         match self.refusal_of(&[&self.call.planes, &self.scratch]) {
             0 if self.has_grid() && self.right_lengths() && self.call.bad_entry() => rules::BAD_ENTRY,
             number => number,
@@ -172,12 +173,12 @@ impl Search {
             let (level, sharpness, count) = self.by_the_rule();
             outcome.out = Out::of(Choice { level, sharpness, count });
             let chosen = self.candidate(level, sharpness);
-            self.copy_grid([&chosen.y, &chosen.u, &chosen.v], &mut outcome.scratch);
+            self.copy_grid([&chosen.y, &chosen.u, &chosen.v], outcome.scratch.each_mut().map(Vec::as_mut_slice));
         }
         outcome
     }
 
-    fn copy_grid(&self, from: [&[u8]; 3], to: &mut Planes) {
+    pub fn copy_grid(&self, from: [&[u8]; 3], to: [&mut [u8]; 3]) {
         for plane in 0..3 {
             let (stride, wide) = (self.call.stride(plane), SIDE[plane] * self.call.layout.columns);
             for row in 0..if self.has_grid() { SIDE[plane] * self.call.layout.rows } else { 0 } {
@@ -217,7 +218,7 @@ impl Search {
     }
 
     /// What the Rust's own search answers, where it has one: level and sharpness.
-    fn rust(&self) -> Option<(u8, u8)> {
+    pub fn rust(&self) -> Option<(u8, u8)> {
         if self.width == 0 || self.height == 0 || !self.has_grid() || !self.right_lengths() {
             return None;
         }
@@ -264,7 +265,13 @@ impl Search {
         ))
     }
 
-    fn library(&self, memory: &mut Memory) -> Outcome {
+    /// Lends all slices to a call, which gets the scratch planes besides what it reads. Answers what the call does, the
+    /// scratch planes that it leaves, and whether all others stay.
+    pub fn lending<R>(
+        &self,
+        memory: &mut Memory,
+        call: impl FnOnce(&ffi::Search, [&mut [u8]; 3]) -> R,
+    ) -> (R, Planes, bool) {
         let before = [&self.call.planes[..], &self.source, &self.call.lists, &self.scratch].concat();
         let mut lent = memory.lent.iter_mut().zip(&before).map(|(memory, bytes)| memory.lend(self.call.side, bytes));
         let lent: [&mut [u8]; 14] = std::array::from_fn(|_| lent.next().expect("fourteen slices"));
@@ -274,23 +281,32 @@ impl Search {
         let Call { pass, layout, config, .. } = &self.call;
         let (planes, pass) = ([&*y, &*u, &*v], *pass);
         let search = ffi::Search { pass, planes, layout, source: &source, lists: &lists, config };
-        let sum = self.call_sum(planes, &source);
-        let answers = SOUGHT.map(|sought| {
-            let scratch = [&mut *ty, &mut *tu, &mut *tv];
-            scratch.into_iter().zip(&self.scratch).for_each(|(lent, before)| lent.copy_from_slice(before));
-            let mut out = UNTOUCHED;
-            let ([_, level, _, sharpness, _], [_, count, _]) = (&mut out.bytes, &mut out.count);
-            let scratch = [&mut *ty, &mut *tu, &mut *tv];
-            let answer = guard::calling(self, || ffi::select_into(&search, sought, scratch, level, sharpness, count));
-            (answer, out, [ty.to_vec(), tu.to_vec(), tv.to_vec()])
-        });
-        // The level alone: the same answer, and the same scratch planes once more.
-        let [(answer, out, scratch), level_alone] = answers;
-        let alike = level_alone == (answer, out.without_sharpness(), scratch.clone());
+        let answer = call(&search, [&mut *ty, &mut *tu, &mut *tv]);
         let Lists { modes, segments, flags, references, inter_modes } = lists;
         let others = [y, u, v, sy, su, sv, modes, segments, flags, references, inter_modes];
         let others_stay = others.iter().zip(&before).all(|(now, before)| **now == before[..]);
-        Outcome { sum, answer, out, scratch, others_stay, alike }
+        (answer, [ty, tu, tv].map(|plane| plane.to_vec()), others_stay)
+    }
+
+    fn library(&self, memory: &mut Memory) -> Outcome {
+        let ((sum, answers), scratch, others_stay) = self.lending(memory, |search, [ty, tu, tv]| {
+            let sum = self.call_sum(search.planes, search.source);
+            let answers = SOUGHT.map(|sought| {
+                let scratch = [&mut *ty, &mut *tu, &mut *tv];
+                scratch.into_iter().zip(&self.scratch).for_each(|(lent, before)| lent.copy_from_slice(before));
+                let mut out = UNTOUCHED;
+                let ([_, level, _, sharpness, _], [_, count, _]) = (&mut out.bytes, &mut out.count);
+                let scratch = [&mut *ty, &mut *tu, &mut *tv];
+                let answer =
+                    guard::calling(self, || ffi::select_into(search, sought, scratch, level, sharpness, count));
+                (answer, out, [ty.to_vec(), tu.to_vec(), tv.to_vec()])
+            });
+            (sum, answers)
+        });
+        // The level alone: the same answer, and the same scratch planes once more.
+        let [(answer, out, both), (level_answer, level_out, _)] = answers;
+        let alike = (level_answer, level_out, &scratch) == (answer, out.without_sharpness(), &both);
+        Outcome { sum, answer, out, scratch: both, others_stay, alike }
     }
 
     /// Compares, and answers what is expected.
@@ -312,7 +328,7 @@ impl Search {
     }
 
     /// Simpler settings and smaller sizes of the source.
-    fn simpler(&self) -> Cases<'_, Search> {
+    pub fn simpler(&self) -> Cases<'_, Search> {
         let configs = settings::simpler(&self.call.config).into_iter();
         let configs = configs.map(|config| Search { call: Call { config, ..self.call.clone() }, ..self.clone() });
         let smaller = |n: usize| [n / 2, n.saturating_sub(1)].into_iter().filter(move |smaller| *smaller < n);
@@ -344,9 +360,14 @@ impl fmt::Display for Search {
     }
 }
 
-/// A search that is not refused, on a small picture. In the source some samples lie between rows.
+/// A search that is not refused, on a small picture.
 fn search(pass: Pass, random: &mut Random) -> Search {
-    let call = picture(pass, 1 + random.below(3), 1 + random.below(3), random);
+    of_size(pass, 1 + random.below(3), 1 + random.below(3), random)
+}
+
+/// A search that is not refused. In the source some samples lie between rows.
+pub fn of_size(pass: Pass, columns: usize, rows: usize, random: &mut Random) -> Search {
+    let call = picture(pass, columns, rows, random);
     against_source(call, |row, random| row + random.one_of(&[0, 0, 1, 30]), random)
 }
 
@@ -469,7 +490,8 @@ fn damaged(plan: &Plan, pass: Pass, kind: &mut Kind) -> Result<(), String> {
     })
 }
 
-fn damage(search: &mut Search, random: &mut Random) {
+/// One fault, at its boundary.
+pub fn damage(search: &mut Search, random: &mut Random) {
     let (plane, layout) = (random.below(3), search.call.layout);
     let shortened = |bytes: &mut Vec<u8>, least: usize| bytes.truncate(least.saturating_sub(1));
     match random.below(10) {
@@ -507,7 +529,7 @@ fn damage_source(search: &mut Search, random: &mut Random) {
 }
 
 /// A byte that 6 refuses, or a list of wrong length, in which 6 is not judged.
-fn damage_list(search: &mut Search, random: &mut Random) {
+pub fn damage_list(search: &mut Search, random: &mut Random) {
     let list = random.one_of(&[0, 3, 4]);
     let (entries, bad) = (&mut search.call.lists[list], LARGEST[list] + 1);
     match random.below(4) {
@@ -523,18 +545,23 @@ fn damage_list(search: &mut Search, random: &mut Random) {
     }
 }
 
-/// Every frame of the kept film against what the film's own settings leave.
+/// A frame of a film against what the film's own settings leave of it.
+pub fn of_frame(frame: &Frame, random: &mut Random) -> Search {
+    let call = recorded::call(frame, random);
+    let (width, height) = frame.visible();
+    let strides = [call.layout.y_stride, call.layout.uv_stride, call.layout.uv_stride];
+    let scratch = call.planes.each_ref().map(|plane| vec![0; plane.len()]);
+    Search { source: call.unbroken(), call, width, height, strides, scratch }
+}
+
+/// Every frame of the kept film.
 fn on_film(plan: &Plan, kind: &mut Kind) -> Result<(), String> {
     let frames: Vec<_> = film::kept().into_iter().flat_map(|stream| stream.frames).collect();
     let step = if plan.long { 1 } else { 2 };
     kind.in_threads(plan.threads, |thread, kind| {
         let (mut random, mut memory) = (Random::new(plan.seed), Memory::new());
         for frame in frames.iter().step_by(step).skip(thread).step_by(plan.threads) {
-            let call = recorded::call(frame, &mut random);
-            let (width, height) = frame.visible();
-            let strides = [call.layout.y_stride, call.layout.uv_stride, call.layout.uv_stride];
-            let scratch = call.planes.each_ref().map(|plane| vec![0; plane.len()]);
-            let search = Search { source: call.unbroken(), call, width, height, strides, scratch };
+            let search = of_frame(frame, &mut random);
             let level = search.same(&mut memory)?.choice().level;
             kind.add_cases(1);
             kind.add_class(if search.call.pass == Pass::Key { "key" } else { "inter" }, 1);

@@ -2,14 +2,14 @@
 
 use crate::call::PASSES;
 use crate::tally::grouped;
-use crate::{coefficients, final_rows, kernels, levels, limits, numbers, passes, search, slices, sources};
+use crate::{coefficients, final_rows, kernels, levels, limits, numbers, passes, search, slices, sources, stills};
 use rules::random::Random;
 use std::process::ExitCode;
 use std::time::{Duration, Instant, SystemTime, UNIX_EPOCH};
 
 /// The functions of the header in its order, without `vp8lf_`, and the numbers that each can refuse a call with. The
 /// largest grid's sum is far below 64 bits, so 10 cannot come.
-const ENTRIES: [(&str, &[u8]); 19] = [
+const ENTRIES: [(&str, &[u8]); 21] = [
     ("clamp_s8", &[]),
     ("u2s", &[]),
     ("s2u", &[]),
@@ -29,6 +29,8 @@ const ENTRIES: [(&str, &[u8]); 19] = [
     ("select_filter_params_inter", &[1, 2, 3, 6, 8, 9]),
     ("select_filter_level", &[1, 2, 3, 6, 8, 9]),
     ("select_filter_level_inter", &[1, 2, 3, 6, 8, 9]),
+    ("full_search", &[1, 2, 3, 6, 8, 9]),
+    ("full_search_inter", &[1, 2, 3, 6, 8, 9]),
 ];
 
 /// Document 01's numbers, 0 being none.
@@ -37,7 +39,7 @@ const NUMBERS: usize = 11;
 /// Draws one call, or one of each of several functions, compares it and counts it.
 pub type Draw = Box<dyn FnMut(&mut Random, &mut Calls) -> Result<(), String>>;
 
-/// What is drawn in turn, and how often in each turn. The passes and the search take most of the time.
+/// What is drawn in turn, and how often in each turn. The passes and the searches take most of the time.
 fn draws() -> Vec<(usize, Draw)> {
     let mut draws: Vec<(usize, Draw)> = vec![
         (2_000, Box::new(numbers::draw)),
@@ -52,6 +54,7 @@ fn draws() -> Vec<(usize, Draw)> {
         draws.push((100, passes::drawer(pass)));
         draws.push((40, search::drawer(pass)));
         draws.push((1, sources::drawer(pass)));
+        draws.push((16, stills::drawer(pass)));
     }
     draws
 }

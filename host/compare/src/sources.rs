@@ -25,7 +25,7 @@ const SUMS: [&str; 7] = [
 const SIZES: [&str; 6] =
     ["21 to 255 columns", "256 to 1024 columns", "21 to 255 rows", "256 to 1024 rows", "level 0", "level above 0"];
 
-const STRIDES: [&str; 15] = [
+pub const STRIDES: [&str; 15] = [
     "luma stride 1,001 to 65,535",
     "chroma stride 1,001 to 65,535",
     "luma stride 65,536",
@@ -43,7 +43,7 @@ const STRIDES: [&str; 15] = [
     "refused: scratch plane one short",
 ];
 
-const ABOUT: &str = "the best sum below a multiple of 2^32, that of level 0 above it";
+pub const ABOUT: &str = "the best sum below a multiple of 2^32, that of level 0 above it";
 
 pub fn compare(plan: &Plan, tally: &mut Tally) {
     tally.run("reconstruction_ssd, large sums", &SUMS, |kind| large_sums(plan, kind));
@@ -153,39 +153,70 @@ fn sizes(plan: &Plan, pass: Pass, kind: &mut Kind) -> Result<(), String> {
 
 fn strides(plan: &Plan, pass: Pass, kind: &mut Kind) -> Result<(), String> {
     rounds(plan, if plan.long { 2_000 } else { 120 }, kind, |random, memory, kind| {
-        let (columns, rows) = random.one_of(&[(1, 1), (2, 1), (3, 1)]);
-        // Strides of the planes are copied for every candidate, and seldom large.
-        let mut stride = |row: usize| if random.below(4) == 0 { grids::stride(row, random) } else { row };
-        let layout = Layout { columns, rows, y_stride: stride(16 * columns), uv_stride: stride(8 * columns) };
-        let search = loop {
-            let search = against_source(on_layout(pass, layout, random), grids::stride, random);
-            if search.width > 0 && search.height > 0 {
-                break search;
-            }
-        };
+        let search = of_any_stride(pass, random);
         search.same(memory)?;
-        let [luma, chroma, _] = search.strides;
-        let (y_stride, uv_stride) = (layout.y_stride, layout.uv_stride);
-        let classes = [
-            ("luma stride 1,001 to 65,535", (1_001..65_536).contains(&y_stride)),
-            ("chroma stride 1,001 to 65,535", (1_001..65_536).contains(&uv_stride)),
-            ("luma stride 65,536", y_stride == 65_536),
-            ("chroma stride 65,536", uv_stride == 65_536),
-            ("source luma stride 1,001 to 60,000", (1_001..60_001).contains(&luma)),
-            ("source luma stride 60,001 to 65,535", (60_001..65_536).contains(&luma)),
-            ("source chroma stride 1,001 to 65,535", (1_001..65_536).contains(&chroma)),
-            ("source luma stride 65,536", luma == 65_536),
-            ("source chroma stride 65,536", chroma == 65_536),
-        ];
-        kind.add_cases(1);
-        classes.into_iter().for_each(|(name, occurs)| kind.add_class(name, occurs as u64));
-        refused_strides(&search, random, memory, kind)?;
-        one_short(&search, memory, kind)
+        count_strides(&search, kind);
+        refused_strides(&search, random).into_iter().chain(one_short(&search)).try_for_each(|refused| {
+            let answer = refused.search.same(memory)?.answer;
+            refused.count(answer, kind)
+        })
     })
 }
 
+/// A search that is not refused, on a few macroblocks, with strides up to the largest.
+pub fn of_any_stride(pass: Pass, random: &mut Random) -> Search {
+    let (columns, rows) = random.one_of(&[(1, 1), (2, 1), (3, 1)]);
+    // Strides of the planes are copied for every candidate, and seldom large.
+    let mut stride = |row: usize| if random.below(4) == 0 { grids::stride(row, random) } else { row };
+    let layout = Layout { columns, rows, y_stride: stride(16 * columns), uv_stride: stride(8 * columns) };
+    loop {
+        let search = against_source(on_layout(pass, layout, random), grids::stride, random);
+        if search.width > 0 && search.height > 0 {
+            return search;
+        }
+    }
+}
+
+pub fn count_strides(search: &Search, kind: &mut Kind) {
+    let [luma, chroma, _] = search.strides;
+    let Layout { y_stride, uv_stride, .. } = search.call.layout;
+    let classes = [
+        ("luma stride 1,001 to 65,535", (1_001..65_536).contains(&y_stride)),
+        ("chroma stride 1,001 to 65,535", (1_001..65_536).contains(&uv_stride)),
+        ("luma stride 65,536", y_stride == 65_536),
+        ("chroma stride 65,536", uv_stride == 65_536),
+        ("source luma stride 1,001 to 60,000", (1_001..60_001).contains(&luma)),
+        ("source luma stride 60,001 to 65,535", (60_001..65_536).contains(&luma)),
+        ("source chroma stride 1,001 to 65,535", (1_001..65_536).contains(&chroma)),
+        ("source luma stride 65,536", luma == 65_536),
+        ("source chroma stride 65,536", chroma == 65_536),
+    ];
+    kind.add_cases(1);
+    classes.into_iter().for_each(|(name, occurs)| kind.add_class(name, occurs as u64));
+}
+
+/// A search that must be refused by a number, and its class.
+pub struct Refused {
+    pub search: Search,
+    number: u8,
+    class: &'static str,
+}
+
+impl Refused {
+    /// Counts what is expected of it, which must be its number.
+    pub fn count(&self, answer: u8, kind: &mut Kind) -> Result<(), String> {
+        let Refused { search, number, class } = self;
+        if answer != *number {
+            return Err(format!("the rule must answer {number}, but answers {answer}\n{search}"));
+        }
+        kind.add_cases(1);
+        kind.add_class(class, 1);
+        Ok(())
+    }
+}
+
 /// Strides of the source that 9 refuses.
-fn refused_strides(search: &Search, random: &mut Random, memory: &mut Memory, kind: &mut Kind) -> Result<(), String> {
+pub fn refused_strides(search: &Search, random: &mut Random) -> Vec<Refused> {
     let wide = [0, 1].map(|plane| search.source().visible(plane).0);
     let [luma, chroma, _] = search.strides;
     let above = random.one_of(&[65_537, 65_538, 1 << 17, 1 << 32, 1 << 32 | luma, usize::MAX]);
@@ -195,36 +226,36 @@ fn refused_strides(search: &Search, random: &mut Random, memory: &mut Memory, ki
         ([wide[0] - 1, chroma], "refused: source stride below the row"),
         ([luma, wide[1] - 1], "refused: source stride below the row"),
     ];
-    changes.into_iter().try_for_each(|([luma, chroma], class)| {
+    let refused = changes.map(|([luma, chroma], class)| {
         let search = Search { strides: [luma, chroma, chroma], ..search.clone() };
-        refused(&search, rules::BAD_SOURCE, class, memory, kind)
-    })
+        Refused { search, number: rules::BAD_SOURCE, class }
+    });
+    refused.into()
 }
 
 /// Each plane, scratch plane and source plane one byte shorter than 3 and 9 allow.
-fn one_short(search: &Search, memory: &mut Memory, kind: &mut Kind) -> Result<(), String> {
-    (0..3).try_for_each(|plane| {
-        let mut short = search.clone();
-        short.source[plane].pop();
-        refused(&short, rules::BAD_SOURCE, "refused: source one short", memory, kind)?;
-        let least = search.call.layout.least_length(plane);
-        let mut short = search.clone();
-        short.scratch[plane].truncate(least - 1);
-        refused(&short, rules::SHORT_PLANE, "refused: scratch plane one short", memory, kind)?;
-        let mut short = search.clone();
-        short.call.planes[plane].truncate(least - 1);
-        refused(&short, rules::SHORT_PLANE, "refused: plane one short", memory, kind)
-    })
-}
-
-fn refused(search: &Search, number: u8, class: &str, memory: &mut Memory, kind: &mut Kind) -> Result<(), String> {
-    let answer = search.same(memory)?.answer;
-    if answer != number {
-        return Err(format!("the rule must answer {number}, but answers {answer}\n{search}"));
-    }
-    kind.add_cases(1);
-    kind.add_class(class, 1);
-    Ok(())
+pub fn one_short(search: &Search) -> Vec<Refused> {
+    type Shorten = fn(&mut Search, usize);
+    let shortened: [(Shorten, u8, &str); 3] = [
+        (|search, plane| _ = search.source[plane].pop(), rules::BAD_SOURCE, "refused: source one short"),
+        (
+            |search, plane| search.scratch[plane].truncate(search.call.layout.least_length(plane) - 1),
+            rules::SHORT_PLANE,
+            "refused: scratch plane one short",
+        ),
+        (
+            |search, plane| search.call.planes[plane].truncate(search.call.layout.least_length(plane) - 1),
+            rules::SHORT_PLANE,
+            "refused: plane one short",
+        ),
+    ];
+    let all = (0..3).flat_map(|plane| shortened.map(|shortened| (plane, shortened)));
+    let refused = all.map(|(plane, (shorten, number, class))| {
+        let mut search = search.clone();
+        shorten(&mut search, plane);
+        Refused { search, number, class }
+    });
+    refused.collect()
 }
 
 /// Columns of macroblocks with edges to smooth; the others are flat.
@@ -232,7 +263,7 @@ const TEXTURED: usize = 8;
 
 /// A search whose unfiltered sum lies above 2^32 and whose best sum lies below it. The flat part of the picture, which no
 /// pass changes, makes up what is missing: the source differs there by as much.
-fn about_a_multiple(pass: Pass, random: &mut Random) -> Search {
+pub fn about_a_multiple(pass: Pass, random: &mut Random) -> Search {
     let layout = tight(40, 10);
     loop {
         let mut call = filtering(pass, layout, random);
@@ -250,6 +281,13 @@ fn about_a_multiple(pass: Pass, random: &mut Random) -> Search {
             return search;
         }
     }
+}
+
+/// Lifts all sums of such a search above 2^32. The lowest rows of the flat part are as yet equal in the source, and their
+/// samples add more than any pass takes away.
+pub fn raise_above_it(search: &mut Search) {
+    let (stride, from) = (search.strides[0], SIDE[0] * (TEXTURED + 1));
+    search.source[0].chunks_exact_mut(stride).rev().take(20).for_each(|row| row[from..].fill(255));
 }
 
 /// Makes the picture 0 right of its first columns.

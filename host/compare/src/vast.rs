@@ -8,7 +8,9 @@ use crate::guard::{self, Guarded};
 use crate::kernels::{ENTRIES, Kernel, KernelOf, UNTOUCHED, middle, window};
 use crate::pictures::picture;
 use crate::search::{Search, against_source};
+use crate::stills::Expected;
 use crate::tally::{Kind, Tally};
+use rules::Scored;
 use rules::random::Random;
 
 /// Of a slice with windows.
@@ -37,9 +39,8 @@ pub fn compare(plan: &Plan, tally: &mut Tally) {
             passes(pass, &mut random, &mut vast, kind)
         });
         let classes = [&LONG[..], &[LIST]].concat();
-        tally.run(&format!("{}, above 2^32 bytes", Sought::Params.entry(pass)), &classes, |kind| {
-            searches(pass, &mut random, &mut vast, kind)
-        });
+        let name = format!("{} and {}, above 2^32 bytes", Sought::Params.entry(pass), pass.full_search());
+        tally.run(&name, &classes, |kind| searches(pass, &mut random, &mut vast, kind));
     }
 }
 
@@ -169,7 +170,7 @@ fn slices([y, u, v]: &Planes, [modes, segments, flags, references, inter_modes]:
     [y, u, v, modes, segments, flags, references, inter_modes].map(Vec::clone)
 }
 
-/// The same for error sums and searches, with the planes of the source and the scratch planes. With lists of the right
+/// The same for error sums, searches and full searches, with the planes of the source and the scratch planes. With lists of the right
 /// length a level above 0 is chosen. Long lists are those in which 6 judges nothing: the others are read by every
 /// candidate, which takes seconds.
 fn searches(pass: Pass, random: &mut Random, vast: &mut Guarded, kind: &mut Kind) -> Result<(), String> {
@@ -194,7 +195,8 @@ fn searches(pass: Pass, random: &mut Random, vast: &mut Guarded, kind: &mut Kind
         let choice = expected.choice();
         let choices =
             [choice, Choice { sharpness: BEFORE.sharpness, ..choice }].map(|choice| (expected.answer, choice));
-        let wanted = (expected.sum.0, expected.sum.1[1], choices);
+        let best = Expected::of(&judged).best().ok_or_else(|| format!("the rule must not refuse\n{what}"))?;
+        let wanted = (expected.sum.0, expected.sum.1[1], (expected.answer, best), choices);
         if library != wanted || !stays {
             return Err(format!(
                 "\n{what}\n  expected {wanted:?}, library {library:?}, slices left as they must be: {stays}"
@@ -212,19 +214,23 @@ fn all_slices(search: &Search, scratch: &Planes) -> [Vec<u8>; 14] {
 /// What a choice holds before a search.
 const BEFORE: Choice = Choice { level: 255, sharpness: 255, count: 255 };
 
-/// The error sum, the search for level and sharpness, and after it the search for the level alone.
-fn sum_and_choices(search: &Search, slices: [&mut [u8]; 14]) -> (u8, u64, [(u8, Choice); 2]) {
+type Answers = (u8, u64, (u8, Scored), [(u8, Choice); 2]);
+
+/// The error sum, the full search, the search for level and sharpness, and after it the search for the level alone.
+fn sum_and_choices(search: &Search, slices: [&mut [u8]; 14]) -> Answers {
     let [y, u, v, sy, su, sv, ty, tu, tv, modes, segments, flags, references, inter_modes] = slices;
     let source = search.lent_source([sy, su, sv]);
     let lists = Lists { modes, segments, flags, references, inter_modes };
     let Call { pass, layout, config, .. } = &search.call;
     let planes = [&*y, &*u, &*v];
     let asked = ffi::Search { pass: *pass, planes, layout, source: &source, lists: &lists, config };
-    let mut sum = u64::MAX;
+    let (mut sum, mut best) = (u64::MAX, Scored { sum: u64::MAX, level: 255, sharpness: 255 });
     let refused = ffi::reconstruction_ssd(planes, layout, &source, &mut sum);
+    let Scored { sum: least, level, sharpness } = &mut best;
+    let full = ffi::full_search(&asked, [&mut *ty, &mut *tu, &mut *tv], level, sharpness, least);
     let choices = [Sought::Params, Sought::Level].map(|sought| {
         let mut choice = BEFORE;
         (ffi::select(&asked, sought, [&mut *ty, &mut *tu, &mut *tv], &mut choice), choice)
     });
-    (refused, sum, choices)
+    (refused, sum, (full, best), choices)
 }

@@ -619,6 +619,29 @@ fn candidates_are_counted() {
     assert_eq!((searched.rust, searched.here), (Some((0, 7)), Ok(Choice { level: 0, sharpness: 7, count: 19 })));
 }
 
+#[test]
+fn every_pair_is_tried() {
+    let picture = Picture::new(2, 1).of_mode_b();
+    let smooth = picture.both(Pass::Key, &header(5).with_sharpness_level(5));
+    let searched = search(&picture, &header(0), &smooth, 0);
+    assert_eq!(searched.rust, Some((4, 0)));
+    let KeyframePlanes { y, u, v, y_stride, uv_stride, .. } = &smooth;
+    let (width, height, y_stride, uv_stride) = (32, 16, *y_stride, *uv_stride);
+    let chosen = picture.both(Pass::Key, &header(4));
+    assert_eq!(rust::reconstruction_ssd(&chosen, &SourcePlanes { width, height, y, u, v, y_stride, uv_stride }), 2);
+
+    let source = Source { planes: [y, u, v], width, height, y_stride, uv_stride };
+    let (layout, lists, mut scratch) = (picture.layout(), picture.lists(), picture.planes.clone());
+    let KeyframePlanes { y, u, v, .. } = &picture.planes;
+    let config = &header(0);
+    let asked = Search { pass: Pass::Key, planes: [y, u, v], layout: &layout, source: &source, lists: &lists, config };
+    let (mut level, mut sharpness, mut sum) = (99, 99, 99);
+    let lent = [&mut scratch.y[..], &mut scratch.u, &mut scratch.v];
+    assert_eq!(entries::full_search(&asked, lent, &mut level, &mut sharpness, &mut sum), 0);
+    assert_eq!((level, sharpness, sum), (5, 5, 0));
+    assert!(scratch == smooth);
+}
+
 // ---- items
 
 #[test]

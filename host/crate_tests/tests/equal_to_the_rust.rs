@@ -344,6 +344,67 @@ fn sums_and_search() {
     }
 }
 
+/// Sum, level and sharpness of the best pair: each scored by the Rust's pass over a copy and its sum.
+fn best_by_the_rust(
+    case: &Case,
+    source: &oracle::SourcePlanes<'_>,
+    inter: Option<&oracle::InterFilterInfo<'_>>,
+) -> (u64, u8, u8) {
+    let planes = of_the_rust(&case.planes);
+    let pairs = (1..=63).flat_map(|level| (0..=7).map(move |sharpness| (level, sharpness)));
+    let filtered = pairs.map(|(level, sharpness)| {
+        let config = case.config.0.with_loop_filter_level(level).with_sharpness_level(sharpness);
+        let (mut planes, modes, flags) = (planes.clone(), &case.modes.0, &case.flags);
+        match inter {
+            None => oracle::filter_frame_flags(&mut planes, modes, flags, &config),
+            Some(inter) => {
+                let (references, inter_modes) = (inter.ref_frames, inter.inter_modes);
+                oracle::filter_inter_frame_flags(&mut planes, modes, flags, references, inter_modes, &config)
+            }
+        }
+        (oracle::loop_filter::reconstruction_ssd(&planes, source), level, sharpness)
+    });
+    let unfiltered = oracle::loop_filter::reconstruction_ssd(&planes, source);
+    filtered.chain([(unfiltered, 0, case.config.0.sharpness_level.min(7))]).min().expect("candidates")
+}
+
+/// The full search chooses what brute force over the Rust chooses, and leaves in scratch what the Rust's pass leaves. Its
+/// sum is at most that of the pair which the Rust's search chooses.
+#[test]
+fn full_search() {
+    let (mut random, mut better, mut filtered) = (Random(6), 0, 0);
+    for case in cases().take(20) {
+        let here::KeyframePlanes { y_stride, uv_stride, mb_cols, mb_rows, .. } = case.planes;
+        let (width, height) = (1 + random.below(16 * mb_cols), 1 + random.below(16 * mb_rows));
+        let [y, u, v] = &case.source;
+        let old_source = oracle::SourcePlanes { width, height, y, u, v, y_stride, uv_stride };
+        let source = here::SourcePlanes { width, height, y, u, v, y_stride, uv_stride };
+        let (ref_frames, inter_modes) = (&case.references.0[..], &case.inter_modes.0[..]);
+        let old_inter = oracle::InterFilterInfo { ref_frames, inter_modes };
+        let (ref_frames, inter_modes) = (&case.references.1[..], &case.inter_modes.1[..]);
+        let inter = here::InterFilterInfo { ref_frames, inter_modes };
+        for (old_inter, inter) in [(None, None), (Some(&old_inter), Some(&inter))] {
+            let (sum, level, sharpness) = best_by_the_rust(&case, &old_source, old_inter);
+            let best = Ok(here::Best { level, sharpness, sum });
+            let (planes, modes, flags, config) = (&case.planes, &case.modes.1, &case.flags, &case.config.1);
+            assert_eq!(here::full_search(planes, modes, flags, config, &source, inter), best);
+
+            let mut scratch = planes.clone();
+            [&mut scratch.y, &mut scratch.u, &mut scratch.v].into_iter().for_each(|plane| plane.fill(7));
+            let lent = here::Scratch { y: &mut scratch.y, u: &mut scratch.u, v: &mut scratch.v };
+            assert_eq!(here::full_search_in(planes, modes, flags, config, &source, inter, lent), best);
+            assert_eq!(here::reconstruction_ssd(&scratch, &source), Ok(sum));
+
+            let lent = here::Scratch { y: &mut scratch.y, u: &mut scratch.u, v: &mut scratch.v };
+            here::select_filter_params_in(planes, modes, flags, config, &source, inter, lent).expect("accepted");
+            let searched = here::reconstruction_ssd(&scratch, &source).expect("accepted");
+            assert!(sum <= searched, "{sum}, and {searched} by the search");
+            (better, filtered) = (better + (sum < searched) as usize, filtered + (level > 0) as usize);
+        }
+    }
+    assert!(better > 0 && filtered > 8, "better than the search {better} times, filtered {filtered} times");
+}
+
 #[test]
 fn levels_limits_and_coefficients() {
     for case in cases() {

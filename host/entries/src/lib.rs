@@ -25,6 +25,14 @@ impl Pass {
             Pass::Inter => "filter_inter_frame",
         }
     }
+
+    /// The name of the C function after `vp8lf_` that is the full search with it.
+    pub fn full_search(self) -> &'static str {
+        match self {
+            Pass::Key => "full_search",
+            Pass::Inter => "full_search_inter",
+        }
+    }
 }
 
 /// One byte a macroblock in each list. The key pass reads the first three.
@@ -161,6 +169,19 @@ pub fn select_into(
     let (source, lists, base) = (search.source.planes(), search.lists.of(search.pass), settings(search.config));
     let sharpness = (sought == Sought::Params).then_some(sharpness);
     lent::select(&planes, &source, &lists, &base, &mut Scratch { y, u, v }, level, sharpness, count)
+}
+
+/// The full search, with each out-parameter where the caller wants it.
+pub fn full_search(
+    search: &Search,
+    [y, u, v]: [&mut [u8]; 3],
+    level: &mut u8,
+    sharpness: &mut u8,
+    sum: &mut u64,
+) -> u8 {
+    let planes = reconstruction(search.planes, search.layout);
+    let (source, lists, base) = (search.source.planes(), search.lists.of(search.pass), settings(search.config));
+    lent::full_search(&planes, &source, &lists, &base, &mut Scratch { y, u, v }, level, sharpness, sum)
 }
 
 fn reconstruction<'a>([y, u, v]: [&'a [u8]; 3], layout: &Layout) -> Planes<'a> {

@@ -1,5 +1,6 @@
 //! Document 01's rules, once more in Rust: which call is refused and by which number, what a pass counts, which rows are
-//! final, and which candidates a search scores. The library's answers and the recorded ones are held to them.
+//! final, and which candidates a search and a full search score. The library's answers and the recorded ones are held to
+//! them.
 
 pub mod random;
 
@@ -183,4 +184,26 @@ pub fn choice(base_sharpness: u8, mut sum: impl FnMut(u8, u8) -> u64) -> (u8, u8
         }
     }
     (best.0, best.1, count)
+}
+
+/// The candidates of a full search: unfiltered, which is level 0 with the base sharpness, and every level with every
+/// sharpness.
+pub fn candidates(base_sharpness: u8) -> impl Iterator<Item = (u8, u8)> {
+    let pairs = (1..=63).flat_map(|level| (0..=7).map(move |sharpness| (level, sharpness)));
+    std::iter::once((0, base_sharpness.min(7))).chain(pairs)
+}
+
+/// A candidate with its error sum. The least of several is the one that a full search chooses: by its sum, then its
+/// level, then its sharpness.
+#[derive(Clone, Copy, Debug, PartialEq, Eq, PartialOrd, Ord)]
+pub struct Scored {
+    pub sum: u64,
+    pub level: u8,
+    pub sharpness: u8,
+}
+
+/// Every candidate of a full search, `sum` being the error sum of a level and a sharpness.
+pub fn scored(base_sharpness: u8, mut sum: impl FnMut(u8, u8) -> u64) -> Vec<Scored> {
+    let score = |(level, sharpness)| Scored { sum: sum(level, sharpness), level, sharpness };
+    candidates(base_sharpness).map(score).collect()
 }

@@ -118,6 +118,7 @@ fn types_and_constness_of_the_header() {
         ("int16_t segment_level_0", "int8_t segment_level_0"),
         ("bool key_frame", "uint8_t key_frame"),
         ("uint64_t *sum", "uint32_t *sum"),
+        ("uint8_t *sharpness, uint64_t *sum", "uint8_t *sharpness, size_t *sum"),
         ("uint8_t *level", "uint8_t *level, uint8_t *more"),
     ] {
         part_is_caught(|texts| &mut texts.header, from, to);
@@ -133,7 +134,9 @@ fn types_and_constness_of_rattle() {
         ("coeffs: &[i16]", "coeffs: &mut [i16]"),
         ("coeffs: &[i16]", "coeffs: &i16"),
         ("base: usize", "base: u64"),
-        ("sum: &mut u64", "sum: &mut u32"),
+        // Of the error sum and of the full search; functions that are not exported have a sum too.
+        ("src_uv_stride: usize,\n    sum: &mut u64", "src_uv_stride: usize,\n    sum: &mut u32"),
+        ("sharpness: &mut u8,\n    sum: &mut u64", "sharpness: &mut u8,\n    sum: &mut usize"),
     ] {
         part_is_caught(|texts| &mut texts.rattle, from, to);
     }
@@ -146,6 +149,7 @@ fn types_and_constness_of_the_rust() {
         ("coeffs: *const i16", "coeffs: *mut i16"),
         ("coeffs_len: usize", "coeffs_len: u32"),
         ("seg: *mut u8", "seg: *const u8"),
+        ("sharpness: *mut u8,\n        sum: *mut u64", "sharpness: *mut u8,\n        sum: *mut usize"),
     ] {
         part_is_caught(|texts| &mut texts.rust, from, to);
     }

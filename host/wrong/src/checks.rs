@@ -6,7 +6,7 @@ use std::io::{BufRead, BufReader};
 use std::process::{Command, Stdio};
 
 /// The modules of `compare` to try first, for functions whose names begin so.
-const MODULES: [(&str, &[&str]); 14] = [
+const MODULES: [(&str, &[&str]); 15] = [
     ("vp8lf_clamp_s8", &["numbers"]),
     ("vp8lf_u2s", &["numbers"]),
     ("vp8lf_s2u", &["numbers"]),
@@ -21,6 +21,7 @@ const MODULES: [(&str, &[&str]); 14] = [
     ("vp8lf_final_rows", &["final_rows"]),
     ("vp8lf_reconstruction_ssd", &["search", "sources", "vast"]),
     ("vp8lf_select", &["search", "sources", "vast"]),
+    ("vp8lf_full_search", &["stills", "vast"]),
 ];
 
 const SOAK: [&str; 4] = ["--soak", "10", "--seed", "6386"];

@@ -2,7 +2,7 @@
 //! with the fault that an environment variable chooses.
 
 use crate::faults::Wrong;
-use signatures::Function;
+use signatures::{Function, Parameter};
 
 /// What the functions of the library are called behind the shims.
 pub const RENAMED: &str = "real_";
@@ -14,13 +14,67 @@ pub fn text(functions: &[Function], all: &[Wrong]) -> String {
     let mut text = format!(
         "#include \"vp8_loop_filter.h\"\n#include <stdlib.h>\n\nstatic int wrong;\n\n\
          __attribute__((constructor)) static void choose(void)\n{{\n    const char *number = getenv(\"{CHOICE}\");\n    \
-         wrong = number ? atoi(number) : 0;\n}}\n"
+         wrong = number ? atoi(number) : 0;\n}}\n{COPY}"
     );
     for function in functions {
         let of_it = |wrong: &&Wrong| wrong.function == function.name;
+        let searches = function.parameters.iter().any(|parameter| parameter.name == "scratch_y");
+        text += &if searches { tried(functions, function) } else { String::new() };
         text += &shim(function, all.iter().filter(of_it));
+        text += if searches { "#undef TRY\n#undef SEARCH\n" } else { "" };
     }
     text
+}
+
+/// Copies the grid of a plane.
+const COPY: &str = "
+static void copy(uint8_t *to, const uint8_t *from, size_t wide, size_t high, size_t stride)
+{
+    for (size_t row = 0; wide > 0 && row < high; row++)
+        for (size_t i = 0; i < wide; i++)
+            to[row * stride + i] = from[row * stride + i];
+}
+";
+
+/// A call of a function of the library with what is in scope by the names of its parameters, or stands for them here.
+fn call(functions: &[Function], name: &str, instead: &[(&str, &str)]) -> String {
+    let function = functions.iter().find(|function| function.name == name).expect("a function of the header");
+    let argument = |parameter: &Parameter| {
+        let other = instead.iter().find(|(name, _)| *name == parameter.name).map(|(_, other)| *other);
+        String::from(other.unwrap_or(&parameter.name))
+    };
+    let arguments: Vec<String> = function.parameters.iter().map(argument).collect();
+    format!("{RENAMED}{name}({})", arguments.join(", "))
+}
+
+/// What the faults of a search may use. `TRY(level, sharpness)` leaves in scratch what the pass with these leaves of the
+/// reconstruction, for level 0 a copy of it, and is the error sum; `SEARCH` calls the search for level and sharpness.
+fn tried(functions: &[Function], function: &Function) -> String {
+    let inter = function.parameters.iter().any(|parameter| parameter.name == "references");
+    let [pass, search] = match inter {
+        false => ["vp8lf_filter_frame", "vp8lf_select_filter_params"],
+        true => ["vp8lf_filter_inter_frame", "vp8lf_select_filter_params_inter"],
+    };
+    const SCRATCH: [(&str, &str); 6] = [
+        ("y", "scratch_y"),
+        ("y_len", "scratch_y_len"),
+        ("u", "scratch_u"),
+        ("u_len", "scratch_u_len"),
+        ("v", "scratch_v"),
+        ("v_len", "scratch_v_len"),
+    ];
+    let pair = [("loop_filter_level", "(try_level)"), ("sharpness_level", "(try_sharpness)")];
+    let whole = [("start", "0"), ("allowance", "SIZE_MAX"), ("count", "&tried_count"), ("next", "&tried_next")];
+    let pass = call(functions, pass, &[&SCRATCH[..], &pair, &whole].concat());
+    let sum = call(functions, "vp8lf_reconstruction_ssd", &[&SCRATCH[..], &[("sum", "&tried_sum")]].concat());
+    let search = call(functions, search, &[("count", "&(size_t){0}")]);
+    format!(
+        "\n#define TRY(try_level, try_sharpness) ({{ size_t tried_count, tried_next; uint64_t tried_sum = 0; \\\n    \
+         copy(scratch_y, y, 16 * mb_cols, 16 * mb_rows, y_stride); \\\n    \
+         copy(scratch_u, u, 8 * mb_cols, 8 * mb_rows, uv_stride); \\\n    \
+         copy(scratch_v, v, 8 * mb_cols, 8 * mb_rows, uv_stride); \\\n    \
+         if ((try_level) > 0) {pass}; \\\n    {sum}; tried_sum; }})\n#define SEARCH {search}\n"
+    )
 }
 
 /// One function, with a case for each of its faults.

@@ -201,6 +201,30 @@ pub fn reconstruction_ssd(planes: &Planes<'_>, src: &SourcePlanes<'_>, sum: &mut
     }
 }
 
+/// Calls a C function that searches. What it reads, the settings and scratch come as records; in brackets, the lists
+/// that it reads besides, and its out-parameters.
+macro_rules! search {
+    (
+        $entry:ident, ($planes:expr, $src:expr, $lists:expr, $base:expr, $scratch:expr),
+        [$($list:expr),*], [$($out:expr),*]
+    ) => {{
+        let Planes { y, u, v, y_stride, uv_stride, mb_cols, mb_rows } = *$planes;
+        let [y, u, v, src_y, src_u, src_v] = [y, u, v, $src.y, $src.u, $src.v].map(lend);
+        let [modes, segments, flags] = [$lists.modes, $lists.segments, $lists.flags].map(lend);
+        let [to_y, to_u, to_v] = [&mut *$scratch.y, $scratch.u, $scratch.v].map(lend_mut);
+        with_settings!(
+            $entry, $base,
+            [
+                y.0, y.1, u.0, u.1, v.0, v.1, mb_cols, mb_rows, y_stride, uv_stride,
+                src_y.0, src_y.1, src_u.0, src_u.1, src_v.0, src_v.1,
+                $src.width, $src.height, $src.y_stride, $src.uv_stride,
+                modes.0, modes.1, segments.0, segments.1, flags.0, flags.1 $(, $list.0, $list.1)*
+                ; to_y.0, to_y.1, to_u.0, to_u.1, to_v.0, to_v.1, $($out),*
+            ]
+        )
+    }};
+}
+
 /// The search with the inter pass if there are lists of references and inter modes, else with the key pass; for level
 /// and sharpness if there is a place for a sharpness, else for the level alone.
 #[allow(clippy::too_many_arguments)]
@@ -214,30 +238,42 @@ pub fn select(
     sharpness: Option<&mut u8>,
     count: &mut usize,
 ) -> u8 {
-    let Planes { y, u, v, y_stride, uv_stride, mb_cols, mb_rows } = *planes;
-    let [y, u, v, src_y, src_u, src_v] = [y, u, v, src.y, src.u, src.v].map(lend);
-    let [modes, segments, flags] = [lists.modes, lists.segments, lists.flags].map(lend);
-    let [to_y, to_u, to_v] = [&mut *scratch.y, scratch.u, scratch.v].map(lend_mut);
-    macro_rules! search {
-        ($entry:ident $(, $list:ident)*; $($sharpness:ident)?) => {
-            with_settings!(
-                $entry, base,
-                [
-                    y.0, y.1, u.0, u.1, v.0, v.1, mb_cols, mb_rows, y_stride, uv_stride,
-                    src_y.0, src_y.1, src_u.0, src_u.1, src_v.0, src_v.1,
-                    src.width, src.height, src.y_stride, src.uv_stride,
-                    modes.0, modes.1, segments.0, segments.1, flags.0, flags.1 $(, $list.0, $list.1)*
-                    ; to_y.0, to_y.1, to_u.0, to_u.1, to_v.0, to_v.1, level, $($sharpness,)? count
-                ]
-            )
+    macro_rules! call {
+        ($entry:ident, $lists:tt, $out:tt) => {
+            search!($entry, (planes, src, lists, base, scratch), $lists, $out)
         };
     }
     match (lists.inter.map(|lists| lists.map(lend)), sharpness) {
-        (None, Some(sharpness)) => search!(vp8lf_select_filter_params; sharpness),
-        (None, None) => search!(vp8lf_select_filter_level;),
+        (None, Some(sharpness)) => call!(vp8lf_select_filter_params, [], [level, sharpness, count]),
+        (None, None) => call!(vp8lf_select_filter_level, [], [level, count]),
         (Some([references, inter_modes]), Some(sharpness)) => {
-            search!(vp8lf_select_filter_params_inter, references, inter_modes; sharpness)
+            call!(vp8lf_select_filter_params_inter, [references, inter_modes], [level, sharpness, count])
         }
-        (Some([references, inter_modes]), None) => search!(vp8lf_select_filter_level_inter, references, inter_modes;),
+        (Some([references, inter_modes]), None) => {
+            call!(vp8lf_select_filter_level_inter, [references, inter_modes], [level, count])
+        }
+    }
+}
+
+/// The full search with the inter pass if there are lists of references and inter modes, else with the key pass.
+#[allow(clippy::too_many_arguments)]
+pub fn full_search(
+    planes: &Planes<'_>,
+    src: &SourcePlanes<'_>,
+    lists: &ByteLists<'_>,
+    base: &FrameFilterConfig,
+    scratch: &mut Scratch<'_>,
+    level: &mut u8,
+    sharpness: &mut u8,
+    sum: &mut u64,
+) -> u8 {
+    macro_rules! call {
+        ($entry:ident, $lists:tt) => {
+            search!($entry, (planes, src, lists, base, scratch), $lists, [level, sharpness, sum])
+        };
+    }
+    match lists.inter.map(|lists| lists.map(lend)) {
+        None => call!(vp8lf_full_search, []),
+        Some([references, inter_modes]) => call!(vp8lf_full_search_inter, [references, inter_modes]),
     }
 }

@@ -146,7 +146,7 @@ fn pair(
 
 /// Calls with scratch as long as the grid needs, and no longer than the reconstruction. A scratch plane that memory
 /// does not suffice for is empty, which the search refuses with 3.
-fn with_scratch<T>(planes: &Planes<'_>, call: impl FnOnce(Scratch<'_>) -> T) -> T {
+pub(crate) fn with_scratch<T>(planes: &Planes<'_>, call: impl FnOnce(Scratch<'_>) -> T) -> T {
     let plane = |plane: &[u8], side: u128, stride: usize| {
         let least = needed(side * planes.mb_rows as u128, stride, side * planes.mb_cols as u128);
         let len = usize::try_from(least).unwrap_or(usize::MAX).min(plane.len());

@@ -112,6 +112,7 @@ fn refused_sums_and_searches() {
         let modes = [MacroblockModes::default(); 2];
         assert_eq!(select_filter_params(&planes, &modes, &[true; 2], &config(), source, None), Err(refusal.clone()));
         assert_eq!(select_filter_level(&planes, &modes, &[true; 2], &config(), source, None), Err(refusal.clone()));
+        assert_eq!(full_search(&planes, &modes, &[true; 2], &config(), source, None), Err(refusal.clone()));
         refusal.to_string()
     };
     assert_eq!(
@@ -134,14 +135,32 @@ fn refused_scratch() {
     let planes = picture();
     let (mut y, mut u, mut v) = (vec![7; 512], vec![7; 127], vec![7; 128]);
     let scratch = Scratch { y: &mut y, u: &mut u, v: &mut v };
-    let modes = [MacroblockModes::default(); 2];
-    let refusal =
-        select_filter_params_in(&planes, &modes, &[true; 2], &config(), &source(&planes), None, scratch).unwrap_err();
+    let (modes, source) = ([MacroblockModes::default(); 2], source(&planes));
+    let refusal = select_filter_params_in(&planes, &modes, &[true; 2], &config(), &source, None, scratch).unwrap_err();
     assert_eq!(
         refusal.to_string(),
         "refused (3): the U scratch plane has 127 bytes, a grid of 2 x 1 macroblocks with stride 16 needs 128"
     );
+    let scratch = Scratch { y: &mut y, u: &mut u, v: &mut v };
+    assert_eq!(full_search_in(&planes, &modes, &[true; 2], &config(), &source, None, scratch), Err(refusal));
     assert!([y, u, v].iter().flatten().all(|&byte| byte == 7));
+}
+
+/// Lists of wrong length and a picture without rows are answered as if no pass changed anything.
+#[test]
+fn full_searches_without_a_pass() {
+    let (planes, other) = (picture(), KeyframePlanes { y: vec![101; 512], ..picture() });
+    let (source, modes) = (source(&other), [MacroblockModes::default(); 2]);
+    let config = config().with_sharpness_level(200);
+    let sum = reconstruction_ssd(&planes, &source).unwrap();
+    let unfiltered = Best { level: 0, sharpness: 7, sum };
+    assert!(sum > 0);
+    assert_eq!(full_search(&planes, &modes, &[true; 3], &config, &source, None), Ok(unfiltered));
+    let inter = InterFilterInfo { ref_frames: &[None; 2], inter_modes: &[None; 1] };
+    assert_eq!(full_search(&planes, &modes, &[true; 2], &config, &source, Some(&inter)), Ok(unfiltered));
+    let (planes, source) = (KeyframePlanes { mb_rows: 0, ..picture() }, SourcePlanes { height: 0, ..source });
+    let nothing = Best { level: 0, sharpness: 7, sum: 0 };
+    assert_eq!(full_search(&planes, &modes, &[true; 2], &config, &source, None), Ok(nothing));
 }
 
 /// Records that do not fit are refused, and the pass is what it was.
@@ -188,6 +207,15 @@ impl From<&Nothing> for MacroblockModes {
     }
 }
 
+fn every_search(planes: &KeyframePlanes, modes: &[Nothing], source: &SourcePlanes<'_>) {
+    let inter = InterFilterInfo { ref_frames: &[None; 2], inter_modes: &[None; 2] };
+    for inter in [None, Some(&inter)] {
+        let _ = select_filter_params(planes, modes, &[true; 2], &config(), source, inter);
+        let _ = select_filter_level(planes, modes, &[true; 2], &config(), source, inter);
+        let _ = full_search(planes, modes, &[true; 2], &config(), source, inter);
+    }
+}
+
 /// Every number at its largest, and lists and planes of length 0.
 #[test]
 fn largest_arguments() {
@@ -213,16 +241,10 @@ fn largest_arguments() {
                             let _ = filter_frame_from(&mut planes, modes, &[true; 2], &config(), start, MOST);
                         }
                     }
-                    let inter = InterFilterInfo { ref_frames: &[None; 2], inter_modes: &[None; 2] };
                     for width in sizes {
                         let source = SourcePlanes { width, height: stride, y_stride: stride, ..source(&full) };
                         let _ = reconstruction_ssd(&planes, &source);
-                        for modes in modes {
-                            for inter in [None, Some(&inter)] {
-                                let _ = select_filter_params(&planes, modes, &[true; 2], &config(), &source, inter);
-                                let _ = select_filter_level(&planes, modes, &[true; 2], &config(), &source, inter);
-                            }
-                        }
+                        modes.into_iter().for_each(|modes| every_search(&planes, modes, &source));
                     }
                 }
             }

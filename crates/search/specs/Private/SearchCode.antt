@@ -1,56 +1,20 @@
 -- What the private functions of the search promise. `proofs/TrialLaws.antt` joins it to `specs/Candidates.antt`.
 use mathlib.Core.Path.{_≡_}
 use mathlib.Core.Bool.{false, cond, not, _||_}
-use mathlib.Core.List.{List}
 use Prim.Native.Nat.{ℕ, _+_, _-_, _*_}
 use lib.Dec.{eqb, ltb}
-use lib.ListN.{length}
-use Rattle.planes.specs.GridRefusals.{pastGrid}
-use Rattle.planes.specs.Layout.{gridOf}
-use Rattle.planes.specs.Planes.{Plane, Planes, Grid, plane}
+use Rattle.planes.specs.Planes.{Planes}
 use Rattle.planes.specs.Steps.{steps}
 use Rattle.calls.specs.Pass.{Pass}
-use Rattle.sums.specs.Source.{sourceOf}
-use Rattle.sums.specs.Sums.{pastSource}
 use Rattle.sums.specs.declared.answers.SearchRefusal.the-variants.{TooLarge, BadStrides, ShortPlane, BadEntry, SourceTooLarge, BadSource, SumTooLarge}
 use Rattle.scratch.specs.Copies.{copyGrid}
-use Rattle.scratch.specs.EitherPass.{passOf, carriedOf}
+use Rattle.scratch.specs.Private.Alike.{Alike}
 use Rattle.search.specs.Candidates.{Candidate, near}
 use Rattle.search.specs.Search.{SearchCall, planesOfCandidate, score, search, Choice, choice}
 use Rattle.search.specs.declared.refusal.Judged.{Judged}
 use Rattle.search.specs.declared.refusal.Judged.the-variants.{Refused, Accepted}
 use Rattle.search.specs.declared.trials.Best.{Best}
 use Rattle.search.specs.declared.trials.Trial.{Trial}
-use Rattle.search.specs.declared.candidates.Setup.{Setup}
-
--- ---- the call of a search
-
-abbrev pub callOf : (o : Setup) (p t : Planes) (modes segments flags references interModes : List ℕ) (y u v : List ℕ) → SearchCall (passOf (o .«inter»))
-callOf o p t m s f r i y u v = record {
-  grid = gridOf (o .«layout»);
-  settings = o .«config»;
-  carried = carriedOf (o .«inter») m s f r i;
-  reconstruction = p;
-  scratch = t;
-  source = sourceOf (o .«width») (o .«height») y u v (o .«y_stride») (o .«uv_stride»);
-}
-
--- what 1, 2, 3, 8, 9 and 6 leave
-pub record Ready (W : Pass) (a : SearchCall W) : Type 0 where
-  pub planes : pastGrid (a .grid) (a .reconstruction) 0 ≡ 0
-  pub scratch : pastGrid (a .grid) (a .scratch) 0 ≡ 0
-  pub source : pastSource (a .grid) (a .source) 0 ≡ 0
-
--- Planes into which the grid is copied alike: t differs from s in the grid's samples alone.
-pub record Alike (g : Grid) (s t : Planes) : Type 0 where
-  pub over : (p : Planes) → copyGrid g p t ≡ copyGrid g p s
-  pub same : pastGrid g t 0 ≡ pastGrid g s 0
-  pub lengths : (q : Plane) → length (plane q t) ≡ length (plane q s)
-
--- a candidate's sum, with the candidate left in the grid of the scratch planes
-pub record Scored (W : Pass) (a : SearchCall W) (c : Candidate) (r : ℕ) (after : Planes) : Type 0 where
-  pub sum : r ≡ score W a c
-  pub scratch : after ≡ copyGrid (a .grid) (planesOfCandidate W a c) (a .scratch)
 
 -- ---- the trials of a search: 16 coarse levels, 64 levels of which those near the winner count, 8 sharpness values
 

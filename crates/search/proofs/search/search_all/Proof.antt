@@ -1,8 +1,7 @@
 -- `search::search::search_all` meets its contract. Assumes nothing.
-use Rattle.search.proofs.Endings.{ended}
-use Rattle.search.specs.Search.{baseSharpness, planesOfCandidate}
-use mathlib.Core.Path.{_∙_}
 use borrow.Author.Needs.{needs}
+use Rattle.search.specs.Search.{planesOfCandidate}
+use Rattle.search.proofs.Endings.{ended}
 use Rattle.search.proofs.search.search_all.Statement.{statement}
 use Rattle.search.proofs.search.search_all.Tie as tie
 
@@ -13,7 +12,7 @@ search-trials-requires : tie.Need-search-trials-requires
 search-trials-requires c κs = search needs
 
 make-candidate-requires : tie.Need-make-candidate-requires
-make-candidate-requires c κs = (c .before .before .before .before .before .before .before .before .before .before .before .before .before .before .before .before .before .before .before .before .before .before .before .before .before .before .before .before .before .pre .0 .planes, c .before .before .before .before .before .before .before .before .before .search-trials .ensures .scratch .same ∙ c .before .before .before .before .before .before .before .before .before .before .before .before .before .before .before .before .before .before .before .before .before .before .before .before .before .before .before .before .before .pre .0 .scratch)
+make-candidate-requires c κs = search needs
 
 same-length : tie.Need-same-length
 same-length c = search needs
@@ -25,8 +24,13 @@ same-length-3 : tie.Need-same-length-3
 same-length-3 c = search needs
 
 returns : tie.Need-returns
-unfolding baseSharpness planesOfCandidate
-returns c = ended _ _ _ _ _ (c .before .before .before .before .before .before .before .before .before .before .before .before .before .before .before .before .before .before .before .before .base-sharpness .ensures) (c .before .before .before .before .before .before .before .before .before .before .before .before .before .before .before .before .before .before .before .before .before .before .before .before .before .before .before .before .before .before .before .before .before .before .before .before .pre .1) (c .before .before .before .before .before .before .before .before .before .before .before .before .before .before .before .before .search-trials .ensures .best) _ _ (c .before .before .before .before .before .before .before .before .before .before .before .before .before .before .before .before .search-trials .ensures .scratch) (c .before .before .before .before .before .before .make-candidate .ensures)
+unfolding planesOfCandidate
+returns c =
+    let m = c .before .before .before .before .before .before in
+    let h = m .before .before .before .before .before .before .before .before .before .before .search-trials .ensures in
+    let b = m .before .before .before .before .before .before .before .before .before .before .before .before .before .before in
+    let (ready, sum) = b .before .before .before .before .before .before .before .before .before .before .before .before .before .before .before .pre in
+    ended _ _ _ _ _ (b .base-sharpness .ensures) sum (h .best) _ _ ready (h .scratch) (m .make-candidate .ensures)
 
 pub search-all-spec : {M : Type 1} → statement M
 search-all-spec =

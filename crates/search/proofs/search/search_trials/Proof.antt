@@ -1,9 +1,10 @@
 -- `search::search::search_trials` meets its contract. The invariant: the trials passed are those of the definition, and the scratch planes differ in the grid alone.
 use Rattle.search.proofs.TrialLaws.{trials-none, trials-more, count-more, trials-end}
-use Rattle.search.proofs.Scores.{alike-self, alike-then}
+use Rattle.scratch.proofs.AlikeLaws.{alike-self, alike-then}
 use Rattle.scratch.specs.EitherPass.{passOf}
-use Rattle.search.specs.Private.SearchCode.{callOf, afterTrial, Alike}
-use Rattle.search.specs.Search.{score, planesOfCandidate}
+use Rattle.scratch.specs.Private.Alike.{Alike}
+use Rattle.search.specs.Private.SearchCode.{afterTrial}
+use Rattle.search.specs.Search.{score, planesOfCandidate, setupCall}
 use Rattle.planes.specs.Layout.{gridOf, planesOf}
 use Rattle.planes.specs.Planes.{luma, chromaU, chromaV}
 use Rattle.planes.specs.Steps.{steps}
@@ -16,7 +17,7 @@ use Rattle.search.proofs.search.search_trials.Tie as tie
 
 abbrev Inv-loop : tie.InvT-loop
 Inv-loop y u v sy₀ su₀ sv₀ modes segments flags references inter-modes setup base src-y src-u src-v best₀ i₀ sy su sv best i =
-    (i ≤ 88) × ((best ≡ steps (afterTrial (score (passOf (setup .«inter»)) (callOf setup (planesOf y u v) (planesOf sy₀ su₀ sv₀) modes segments flags references inter-modes src-y src-u src-v)) base) 0 i best₀) × ((best .«count» ≤ i) × Alike (gridOf (setup .«layout»)) (planesOf sy₀ su₀ sv₀) (planesOf sy su sv)))
+    (i ≤ 88) × ((best ≡ steps (afterTrial (score (passOf (setup .«inter»)) (setupCall setup (planesOf y u v) (planesOf sy₀ su₀ sv₀) modes segments flags references inter-modes src-y src-u src-v)) base) 0 i best₀) × ((best .«count» ≤ i) × Alike (gridOf (setup .«layout»)) (planesOf sy₀ su₀ sv₀) (planesOf sy su sv)))
 
 abbrev μ-loop : tie.MeasureT-loop
 μ-loop y u v sy₀ su₀ sv₀ modes segments flags references inter-modes setup base src-y src-u src-v best₀ i₀ sy su sv best i = 88 - i

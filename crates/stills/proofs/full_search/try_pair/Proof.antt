@@ -1,0 +1,103 @@
+-- `stills::full_search::try_pair` meets its contract. Assumes nothing.
+use borrow.Author.Needs.{needs}
+use Rattle.planes.specs.Layout.{planesOf}
+use Rattle.sums.specs.Bytes.{BytePlanes}
+use Rattle.search.proofs.Scores.{byte-planes, made, scored-sum, scored-always}
+use Rattle.stills.specs.FullSearch.{pairAt}
+use Rattle.stills.proofs.Pairs.{pair-taken}
+use Rattle.stills.proofs.full_search.try_pair.Statement.{statement}
+use Rattle.stills.proofs.full_search.try_pair.Tie as tie
+
+-- ---- from the sum on
+
+abbrev entry : tie.After-slice-known6 → tie.Start
+entry k = k .before .before .before .before .before .before .before .before .before .before .before .before .before .before .before .before .before .before .before .before .before .before .before .before
+
+-- the source's samples are bytes, and so are those of the scratch planes
+source-bytes : (k : tie.After-slice-known6) → BytePlanes (planesOf (entry k .args .src-y .now) (entry k .args .src-u .now) (entry k .args .src-v .now))
+source-bytes k =
+    let s = k .before .before .before .before .before .before .before .before .before .before in
+    byte-planes _ _ _ (s .before .before .shared-slice-known9 .given) (s .before .shared-slice-known10 .given) (s .shared-slice-known11 .given)
+
+abbrev summed : tie.After-slice-known6 → tie.After-candidate-sum
+summed k = k .before .before .before .before .before .before
+
+add-level : tie.Need-add-level
+add-level c = search needs
+
+cast-level : tie.Need-cast-level
+cast-level c = search needs
+
+cast-sharpness : tie.Need-cast-sharpness
+cast-sharpness c = search needs
+
+candidate-sum-requires : tie.Need-candidate-sum-requires
+candidate-sum-requires c κs = search needs
+
+enum-known-sum : tie.Need-enum-known-sum
+enum-known-sum c = search needs
+
+enum-told : tie.Need-enum-told
+enum-told c = search needs
+
+same-length : tie.Need-same-length
+same-length c = search needs
+
+same-length-2 : tie.Need-same-length-2
+same-length-2 c = search needs
+
+same-length-3 : tie.Need-same-length-3
+same-length-3 c = search needs
+
+returns : tie.Need-returns
+returns c =
+    let k = c .before .before in
+    absurd (scored-always _ _ (entry k .pre .0) _ _ _ (summed k .candidate-sum .ensures)
+    (byte-planes _ _ _ (k .before .before .before .before .slice-known4 .given) (k .before .before .slice-known5 .given) (k .slice-known6 .given))
+    (source-bytes k) (c .before .match .keys2))
+
+take-requires : tie.Need-take-requires
+take-requires c κs = search needs
+
+same-length-4 : tie.Need-same-length-4
+same-length-4 c = search needs
+
+same-length-5 : tie.Need-same-length-5
+same-length-5 c = search needs
+
+same-length-6 : tie.Need-same-length-6
+same-length-6 c = search needs
+
+returns-2 : tie.Need-returns-2
+unfolding pairAt
+returns-2 c =
+    let k = c .before .before .before .before in
+    let h = summed k .candidate-sum .ensures in
+    record {
+      best =
+          pair-taken _ _ (entry k .args .i) _ _ _ (c .take .ensures)
+          (scored-sum _ _ (entry k .pre .0) _ _ _ h
+          (byte-planes _ _ _ (k .before .before .before .before .slice-known4 .given) (k .before .before .slice-known5 .given) (k .slice-known6 .given))
+          (source-bytes k) _ (c .before .before .sum .given .1));
+      scratch = made _ _ (entry k .pre .0) _ _ _ h;
+    }
+
+pub try-pair-spec : {M : Type 1} → statement M
+try-pair-spec =
+    tie.close
+    (tie.spec
+    add-level
+    cast-level
+    cast-sharpness
+    candidate-sum-requires
+    enum-known-sum
+    enum-told
+    same-length
+    same-length-2
+    same-length-3
+    returns
+    take-requires
+    same-length-4
+    same-length-5
+    same-length-6
+    returns-2)

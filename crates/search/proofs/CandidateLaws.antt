@@ -25,18 +25,22 @@ candidate-length W g settings carried p c q = by (eqb (c .level) 0)
     by true = refl
     by false = pass-length W g (settingsAt settings c) carried 0 (macroblocks g) p q
 
+-- so a candidate is refused where the reconstruction is
+pub candidate-past : (W : Pass) (g : Grid) (settings : FrameFilterConfig) (carried : W .Carried) (p : Planes) (c : Candidate) (rest : ℕ)
+    → pastGrid g (candidatePlanes W g settings carried p c) rest ≡ pastGrid g p rest
+candidate-past W g settings carried p c rest = past-lengths g (candidatePlanes W g settings carried p c) p rest (candidate-length W g settings carried p c)
+
 module _ (W : Pass) (g : Grid) (settings : FrameFilterConfig) (carried : W .Carried) (p t : Planes) (c : Candidate) where
   -- where the reconstruction or the scratch planes are refused, no candidate is made
   pub candidate-refused : (pastGrid g p (pastGrid g t 0) ≡ 0 → ⊥) → t ≡ copiedGrid g (candidatePlanes W g settings carried p c) t
   candidate-refused h =
       not-copied g (candidatePlanes W g settings carried p c) t
-      (λ z. h (sym (past-lengths g (candidatePlanes W g settings carried p c) p (pastGrid g t 0) (candidate-length W g settings carried p c)) ∙ z))
+      (λ z. h (sym (candidate-past W g settings carried p c (pastGrid g t 0)) ∙ z))
 
   module _ (ep : pastGrid g p 0 ≡ 0) (et : pastGrid g t 0 ≡ 0) where
-    candidate-copied : copiedGrid g (candidatePlanes W g settings carried p c) t ≡ copyGrid g (candidatePlanes W g settings carried p c) t
+    pub candidate-copied : copiedGrid g (candidatePlanes W g settings carried p c) t ≡ copyGrid g (candidatePlanes W g settings carried p c) t
     candidate-copied =
-        copied g (candidatePlanes W g settings carried p c) t
-        (past-lengths g (candidatePlanes W g settings carried p c) p 0 (candidate-length W g settings carried p c) ∙ ep) et
+        copied g (candidatePlanes W g settings carried p c) t (candidate-past W g settings carried p c 0 ∙ ep) et
 
     unfiltered-copy : (after : Planes) → c .level ≡ 0 → after ≡ copyGrid g p t → after ≡ copyGrid g (candidatePlanes W g settings carried p c) t
     unfolding candidatePlanes

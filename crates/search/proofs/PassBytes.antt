@@ -27,8 +27,7 @@ use Rattle.sums.specs.Bytes.{Bytes, BytePlanes}
 use Rattle.search.specs.Candidates.{Candidate}
 use Rattle.search.specs.Search.{SearchCall, settingsAt, passOver, candidatePlanes, planesOfCandidate, score, anyTooLarge}
 use Rattle.sums.proofs.SumBounds.{sum-fits}
-use Rattle.planes.proofs.PastGrid.{past-lengths}
-use Rattle.search.proofs.CandidateLaws.{candidate-length}
+use Rattle.search.proofs.CandidateLaws.{candidate-past}
 
 abbrev Byte : ℕ → Type 0
 Byte n = n < 256
@@ -167,7 +166,7 @@ module _ (W : Pass) (a : SearchCall W) (bp : BytePlanes (a .reconstruction)) (bs
   score-fits c =
       sum-fits (a .grid) (candidatePlanes W (a .grid) (a .settings) (a .carried) (a .reconstruction) c) (a .source)
       (candidate-bytes W (a .grid) (a .settings) (a .carried) (a .reconstruction) c bp) bs
-      (past-lengths (a .grid) (candidatePlanes W (a .grid) (a .settings) (a .carried) (a .reconstruction) c) (a .reconstruction) 0 (candidate-length W (a .grid) (a .settings) (a .carried) (a .reconstruction) c) ∙ e) f
+      (candidate-past W (a .grid) (a .settings) (a .carried) (a .reconstruction) c 0 ∙ e) f
 
   pub none-too-large : (cs : List Candidate) → anyTooLarge (score W a) cs ≡ false
   unfolding anyTooLarge sumTooLarge

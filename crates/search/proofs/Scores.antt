@@ -12,12 +12,12 @@ use Rattle.arithmetic.specs.Outcome.{gives}
 use Rattle.planes.specs.Planes.{luma, chromaU, chromaV, Planes}
 use Rattle.planes.specs.Layout.{planesOf}
 use Rattle.calls.specs.Pass.{Pass}
-use Rattle.sums.specs.Sums.{errorSum}
+use Rattle.sums.specs.Sums.{errorSum, sumAnswer}
 use Rattle.planes.specs.GridRefusals.{pastGrid}
 use Rattle.sums.specs.Bytes.{Bytes, BytePlanes}
 use Rattle.scratch.specs.Copies.{copyGrid, copiedGrid}
 use Rattle.search.specs.Candidates.{Candidate}
-use Rattle.search.specs.Search.{SearchCall, candidatePlanes, planesOfCandidate, score, CandidateSummed}
+use Rattle.search.specs.Search.{SearchCall, planesOfCandidate, score}
 use Rattle.search.specs.Private.Ready.{Ready}
 use Rattle.sums.specs.Answers.{sumOutcome}
 use Rattle.sums.specs.declared.answers.SumAnswer.{SumAnswer}
@@ -26,10 +26,9 @@ use Rattle.sums.proofs.answers.SumAnswer.{the-type}
 use Rattle.sums.proofs.SumLaws.{not-sum}
 use Rattle.sums.proofs.SumRefusals.{ends-fit}
 use Rattle.sums.proofs.SumBounds.{sum-fits}
-use Rattle.planes.proofs.PastGrid.{past-lengths}
-use Rattle.search.proofs.CandidateLaws.{candidate-length}
+use Rattle.search.proofs.CandidateLaws.{candidate-copied}
 use Rattle.search.proofs.CopiedSums.{sum-copy}
-use Rattle.scratch.proofs.CopyLaws.{copied, copy-past}
+use Rattle.scratch.proofs.CopyLaws.{copy-past}
 
 pub byte-planes : (y u v : List ℕ) → ((i : ℕ) → Fits w8 (getD y i 0)) → ((i : ℕ) → Fits w8 (getD u i 0)) → ((i : ℕ) → Fits w8 (getD v i 0)) → BytePlanes (planesOf y u v)
 unfolding BytePlanes Bytes
@@ -47,29 +46,23 @@ pub sum-given : (m n : ℕ) → sumOutcome (Sum m) ≡ gives n → m ≡ n
 unfolding sumOutcome
 sum-given m n e = cc
 
--- a pass keeps the lengths, so that a candidate is refused where the reconstruction is
-pub candidate-past : (W : Pass) (a : SearchCall W) (c : Candidate) (rest : ℕ) → pastGrid (a .grid) (planesOfCandidate W a c) rest ≡ pastGrid (a .grid) (a .reconstruction) rest
-unfolding planesOfCandidate
-candidate-past W a c rest =
-    past-lengths (a .grid) (candidatePlanes W (a .grid) (a .settings) (a .carried) (a .reconstruction) c) (a .reconstruction) rest
-    (candidate-length W (a .grid) (a .settings) (a .carried) (a .reconstruction) c)
-
 pub candidate-made : (W : Pass) (a : SearchCall W) (c : Candidate) (t after : Planes) → pastGrid (a .grid) (a .reconstruction) 0 ≡ 0 → pastGrid (a .grid) t 0 ≡ 0
     → after ≡ copiedGrid (a .grid) (planesOfCandidate W a c) t → after ≡ copyGrid (a .grid) (planesOfCandidate W a c) t
-candidate-made W a c t after ep et e = e ∙ copied (a .grid) (planesOfCandidate W a c) t (candidate-past W a c 0 ∙ ep) et
+unfolding planesOfCandidate
+candidate-made W a c t after ep et e = e ∙ candidate-copied W (a .grid) (a .settings) (a .carried) (a .reconstruction) t c ep et
 
 -- ---- a candidate that was made and summed in scratch planes
 
-module _ (W : Pass) (a : SearchCall W) (ready : Ready W a) (c : Candidate) (r : SumAnswer) (after : Planes) (h : CandidateSummed W a c (sumOutcome r) after) where
+module _ (W : Pass) (a : SearchCall W) (ready : Ready W a) (c : Candidate) (after : Planes) (e : after ≡ copiedGrid (a .grid) (planesOfCandidate W a c) (a .scratch)) where
   pub made : after ≡ copyGrid (a .grid) (planesOfCandidate W a c) (a .scratch)
-  made = candidate-made W a c (a .scratch) after (ready .planes) (ready .scratch) (h .scratch)
+  made = candidate-made W a c (a .scratch) after (ready .planes) (ready .scratch) e
 
-  module _ (bytes : BytePlanes after) (source : BytePlanes (a .source .samples)) where
+  module _ (bytes : BytePlanes after) (source : BytePlanes (a .source .samples)) (r : SumAnswer) (h : sumOutcome r ≡ sumAnswer (a .grid) after (a .source)) where
     given : sumOutcome r ≡ gives (score W a c)
     unfolding score
     given =
         let past : pastGrid (a .grid) after 0 ≡ 0 = ap (λ (z : Planes). pastGrid (a .grid) z 0) made ∙ copy-past (a .grid) (planesOfCandidate W a c) (a .scratch) ∙ ready .scratch in
-        h .answer ∙ sym (ends-fit (a .grid) after (a .source) past (ready .source) (sum-fits (a .grid) after (a .source) bytes source past (ready .source)))
+        h ∙ sym (ends-fit (a .grid) after (a .source) past (ready .source) (sum-fits (a .grid) after (a .source) bytes source past (ready .source)))
         ∙ ap gives (ap (λ (z : Planes). errorSum (a .grid) z (a .source)) made ∙ sum-copy (a .grid) (planesOfCandidate W a c) (a .scratch) (a .source) (ready .scratch) (ready .source))
 
     pub scored-sum : (m : ℕ) → r ≡ Sum m → m ≡ score W a c

@@ -14,9 +14,9 @@ use Rattle.planes.specs.Layout.{gridOf}
 use Rattle.calls.specs.Pass.{Pass, keyPass, interPass, planesAfter}
 use Rattle.planes.specs.declared.layout.PlaneLayout.{PlaneLayout}
 use Rattle.sums.specs.Source.{Source}
-use Rattle.sums.specs.Sums.{errorSum, pastSource, sumTooLarge, sumAnswer}
+use Rattle.sums.specs.Sums.{errorSum, pastSource, sumTooLarge}
 use Rattle.sums.specs.Source.{sourceOf}
-use Rattle.scratch.specs.Copies.{copyGrid, copiedGrid}
+use Rattle.scratch.specs.Copies.{copyGrid}
 use Rattle.scratch.specs.EitherPass.{passOf, carriedOf}
 use Rattle.search.specs.Candidates.{Candidate, Standing, aboveZero, searched}
 use Rattle.search.specs.declared.candidates.Setup.{Setup}
@@ -149,11 +149,6 @@ levelOnly (refuses n) = refuses n
 pub record Unfiltered (W : Pass) (a : SearchCall W) (r : Outcome ℕ) (after : Planes) : Type 0 where
   pub answer : r ≡ unfilteredAnswer W a
   pub scratch : after ≡ a .scratch
-
--- the candidate in the scratch planes, where 1, 2 and 3 refuse neither the planes nor these, and the error sum of these
-pub record CandidateSummed (W : Pass) (a : SearchCall W) (c : Candidate) (r : Outcome ℕ) (after : Planes) : Type 0 where
-  pub answer : r ≡ sumAnswer (a .grid) after (a .source)
-  pub scratch : after ≡ copiedGrid (a .grid) (planesOfCandidate W a c) (a .scratch)
 
 -- a search
 pub record Searched (W : Pass) (a : SearchCall W) (r : Outcome Choice) (after : Planes) : Type 0 where

@@ -1,17 +1,14 @@
-// The candidates of a search: made in the scratch planes by a copy and a pass, and summed against the source.
+// The candidates of a search: made in the scratch planes by a copy and a pass, that the searches share.
 use levels::config::FrameFilterConfig;
 use planes::layout::PlaneLayout;
 use scratch::copies::copy_grid;
 use scratch::copies::scratch_refusal;
 use scratch::either::either_pass;
-use sums::answers::SumAnswer;
-use sums::sums::reconstruction_ssd;
 ghost use mathlib.Core.Path.{_≡_};
 ghost use Rattle.planes.specs.Layout.{gridOf, planesOf};
-ghost use Rattle.sums.specs.Answers.{sumOutcome};
 ghost use Rattle.scratch.specs.Copies.{copiedGrid};
 ghost use Rattle.scratch.specs.EitherPass.{passOf, carriedOf};
-ghost use Rattle.search.specs.Search.{settingsAt, candidatePlanes, baseSharpness, setupCall, CandidateSummed};
+ghost use Rattle.search.specs.Search.{settingsAt, candidatePlanes, baseSharpness};
 
 const HIGHEST_SHARPNESS: u8 = 7;
 
@@ -108,65 +105,4 @@ pub fn make_candidate(
         0,
         all,
     );
-}
-
-// A candidate is left in the scratch planes, and their error sum is answered.
-pub fn candidate_sum<'s>(
-    y: &[u8],
-    u: &[u8],
-    v: &[u8],
-    scratch_y: &mut [u8],
-    scratch_u: &mut [u8],
-    scratch_v: &mut [u8],
-    modes: &[u8],
-    segments: &[u8],
-    flags: &[u8],
-    references: &[u8],
-    inter_modes: &[u8],
-    setup: Setup,
-    level: u8,
-    sharpness: u8,
-    src_y: &'s [u8],
-    src_u: &'s [u8],
-    src_v: &'s [u8],
-) -> SumAnswer
-    ensures { λ r. ⌜ CandidateSummed (passOf (setup .«inter»))
-        (setupCall setup
-        (planesOf (now (y .entry)) (now (u .entry)) (now (v .entry)))
-        (planesOf (now («scratch_y» .entry)) (now («scratch_u» .entry)) (now («scratch_v» .entry)))
-        (now (modes .entry)) (now (segments .entry)) (now (flags .entry)) (now (references .entry)) (now («inter_modes» .entry))
-        (now («src_y» .entry)) (now («src_u» .entry)) (now («src_v» .entry)))
-        (record { level = level; sharpness = sharpness }) (sumOutcome r)
-        (planesOf (now («scratch_y» .exit)) (now («scratch_u» .exit)) (now («scratch_v» .exit))) ⌝ }
-{
-    make_candidate(
-        y,
-        u,
-        v,
-        scratch_y,
-        scratch_u,
-        scratch_v,
-        modes,
-        segments,
-        flags,
-        references,
-        inter_modes,
-        setup,
-        level,
-        sharpness,
-    );
-    let layout = setup.layout;
-    reconstruction_ssd(
-        &*scratch_y,
-        &*scratch_u,
-        &*scratch_v,
-        layout,
-        setup.width,
-        setup.height,
-        src_y,
-        src_u,
-        src_v,
-        setup.y_stride,
-        setup.uv_stride,
-    )
 }

@@ -3,7 +3,6 @@ use crate::answers::LevelOnlyAnswer;
 use crate::answers::ParamsAnswer;
 use crate::candidates::Setup;
 use crate::candidates::base_sharpness;
-use crate::candidates::candidate_sum;
 use crate::candidates::make_candidate;
 use crate::trials::Best;
 use crate::trials::TRIALS;
@@ -15,6 +14,7 @@ use crate::unfiltered::unfiltered_sum;
 use levels::config::FrameFilterConfig;
 use planes::layout::PlaneLayout;
 use sums::answers::SumAnswer;
+use sums::sums::reconstruction_ssd;
 ghost use mathlib.Core.Path.{_≡_};
 ghost use Prim.Native.Nat.{_<_};
 ghost use Rattle.planes.specs.Layout.{gridOf, planesOf};
@@ -69,7 +69,7 @@ fn try_candidate<'s>(
     }
     let level = trial.level;
     let sharpness = trial.sharpness;
-    let SumAnswer::Sum(sum) = candidate_sum(
+    make_candidate(
         y,
         u,
         v,
@@ -84,9 +84,20 @@ fn try_candidate<'s>(
         setup,
         level,
         sharpness,
+    );
+    let layout = setup.layout;
+    let SumAnswer::Sum(sum) = reconstruction_ssd(
+        &*scratch_y,
+        &*scratch_u,
+        &*scratch_v,
+        layout,
+        setup.width,
+        setup.height,
         src_y,
         src_u,
         src_v,
+        setup.y_stride,
+        setup.uv_stride,
     ) else {
         return best;
     };

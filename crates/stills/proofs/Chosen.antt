@@ -19,6 +19,7 @@ use Rattle.sums.specs.Sums.{errorSum}
 use Rattle.scratch.proofs.CopyLaws.{steps-next}
 use Rattle.search.specs.Candidates.{Candidate, Standing, fold, keep, upward, coarseLevels, near, consider, atBase, unfiltered, coarse, otherLevel, refined, otherSharpness, searched}
 use Rattle.search.specs.Search.{SearchCall, score, baseSharpness, search}
+use Rattle.search.proofs.CountLaws.{both}
 use Rattle.search.proofs.EqualSums.{planes-stay}
 use Rattle.search.proofs.FoldLaws.{none-smaller}
 use Rattle.stills.specs.FullSearch.{FullChoice, pairAt, afterPairs, fullSearch, fullChoice}
@@ -154,10 +155,6 @@ module _ (sum : Candidate → ℕ) (base : ℕ) where
 upTo : (m : ℕ) → List ℕ → Bool
 upTo m [] = true
 upTo m (x ∷ xs) = leb x m && upTo m xs
-
-both : (a b : Bool) → (a && b) ≡ true → (a ≡ true) × (b ≡ true)
-both true b e = (refl, e)
-both false b e = let z : _≡_ {A = ℕ} 0 1 = cc in absurd (omega arith)
 
 keep-up-to : (m : ℕ) (f : ℕ → Bool) (xs : List ℕ) → upTo m xs ≡ true → upTo m (keep f xs) ≡ true
 unfolding upTo keep

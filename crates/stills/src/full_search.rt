@@ -4,10 +4,10 @@ use levels::config::FrameFilterConfig;
 use planes::layout::PlaneLayout;
 use search::candidates::Setup;
 use search::candidates::base_sharpness;
-use search::candidates::candidate_sum;
 use search::candidates::make_candidate;
 use search::unfiltered::unfiltered_sum;
 use sums::answers::SumAnswer;
+use sums::sums::reconstruction_ssd;
 ghost use mathlib.Core.Path.{_≡_};
 ghost use Prim.Native.Nat.{_<_};
 ghost use Rattle.planes.specs.Layout.{gridOf, planesOf};
@@ -87,7 +87,7 @@ fn try_pair<'s>(
 {
     let level = (1 + i / SHARPNESS_VALUES) as u8;
     let sharpness = (i % SHARPNESS_VALUES) as u8;
-    let SumAnswer::Sum(sum) = candidate_sum(
+    make_candidate(
         y,
         u,
         v,
@@ -102,9 +102,20 @@ fn try_pair<'s>(
         setup,
         level,
         sharpness,
+    );
+    let layout = setup.layout;
+    let SumAnswer::Sum(sum) = reconstruction_ssd(
+        &*scratch_y,
+        &*scratch_u,
+        &*scratch_v,
+        layout,
+        setup.width,
+        setup.height,
         src_y,
         src_u,
         src_v,
+        setup.y_stride,
+        setup.uv_stride,
     ) else {
         return best;
     };

@@ -7,8 +7,9 @@
  * What each function of the library answers and writes is proved. What no proof covers, and the caller must keep:
  *   - A pointer comes with its true length: as many numbers may be read there, and written if it does not point to
  *     const. An out-parameter points to one number that may be written.
- *   - What a call writes (the planes of a pass, the segment of a kernel, scratch planes, out-parameters) overlaps nothing
- *     else that the call is given, and nobody else uses it while the call runs. So no list lies in a plane of a pass.
+ *   - What a call writes (the planes of a pass, the segment of a kernel, the buffer for the table of limits, scratch
+ *     planes, out-parameters) overlaps nothing else that the call is given, and nobody else uses it while the call runs.
+ *     So no list lies in a plane of a pass.
  *   - What nobody writes while the call runs may overlap: src_y may be y, and one list of zeros may be given as segments
  *     and as flags.
  *   - A bool is 0 or 1.
@@ -74,6 +75,23 @@ uint8_t vp8lf_s2u(int32_t v);
 /* Derives the limits of a macroblock from any level, any sharpness and the key mark. Writes all four out-parameters. */
 void vp8lf_derive(uint8_t loop_filter_level, uint8_t sharpness_level, bool key_frame, uint8_t *interior_limit,
                   uint8_t *hev_threshold, uint8_t *mbedge_limit, uint8_t *sub_bedge_limit);
+
+/* The table of interior limits has a row for each sharpness 0 to 7, and in it a byte for each level 0 to 63. */
+#define VP8LF_SHARPNESS_LEVELS 8
+#define VP8LF_FILTER_LEVELS 64
+
+/*
+ * Writes the first bytes of the table of interior limits into the lent buffer, as many as fit, and returns how many:
+ * 512 if it has 512 bytes or more. The buffer's other bytes stay. No call is refused; a buffer of length 0 gives 0.
+ *
+ * The byte at 64 x sharpness + level is the interior limit that vp8lf_derive writes for that level and that sharpness,
+ * with either key mark. The passes read the same table for sharpness 0 to 7, and derive the limit above that.
+ *
+ *     uint8_t limits[VP8LF_SHARPNESS_LEVELS][VP8LF_FILTER_LEVELS];
+ *     vp8lf_interior_limits((uint8_t *)limits, sizeof limits);
+ *     limits[4][32];    (5, the interior limit of level 32 at sharpness 4)
+ */
+size_t vp8lf_interior_limits(uint8_t *limits, size_t limits_len);
 
 /* Kernels on one window (RFC 6386, sections 15.2 and 15.3). Each can be refused with VP8LF_NO_WINDOW only. */
 

@@ -65,6 +65,33 @@ static void limits(const char *figure, uint8_t level, uint8_t sharpness, bool ke
     check_bytes(figure, expected, came, 4);
 }
 
+/* Every length up to some bytes more than the table: the count, the bytes written and those after them. */
+static void table_of_limits(void)
+{
+    uint8_t limits[VP8LF_SHARPNESS_LEVELS][VP8LF_FILTER_LEVELS], came[600], expected[600], other[3];
+    memset(limits, 99, sizeof limits);
+    check("the whole table", 512, (long long)vp8lf_interior_limits((uint8_t *)limits, sizeof limits));
+    for (unsigned i = 0; i < 2 * 512; i++) {
+        uint8_t sharpness = (uint8_t)(i / 2 / 64), level = i / 2 % 64, limit = 98;
+        vp8lf_derive(level, sharpness, i % 2, &limit, &other[0], &other[1], &other[2]);
+        check("an interior limit", limit, limits[sharpness][level]);
+    }
+    check("that of figure A", 63, limits[0][63]);
+    check("that of figure B", 1, limits[0][0]);
+    check("that of figure C", 5, limits[4][32]);
+    check("that of figure D", 4, limits[5][32]);
+    check("that of figure E", 1, limits[5][3]);
+    for (size_t len = 0; len <= sizeof came; len++) {
+        size_t count = len < sizeof limits ? len : sizeof limits;
+        memset(came, 99, sizeof came);
+        memset(expected, 99, sizeof expected);
+        memcpy(expected, limits, count);
+        check("the bytes written", (long long)count, (long long)vp8lf_interior_limits(came, len));
+        check_bytes("a buffer", expected, came, sizeof came);
+    }
+    check("no buffer", 0, (long long)vp8lf_interior_limits(NULL, 0));
+}
+
 static void simple(const char *figure, uint8_t edge_limit, const uint8_t before[4], const uint8_t after[4])
 {
     uint8_t seg[4];
@@ -879,6 +906,7 @@ int main(void)
     limits("D", 32, 5, false, 4, 2, 72, 68);
     limits("E", 3, 5, true, 1, 0, 11, 7);
     limits("F", 255, 0, true, 255, 2, 255, 255);
+    table_of_limits();
     windows();
     for (size_t len = 0; len < 8; len++)
         refused(len, 0);

@@ -2,3 +2,5 @@
 pub mod Ranges
 -- Numbers, computed.
 pub mod Shifts
+-- Lists whose entries follow a rule, and arrays that a loop fills.
+pub mod Tables

@@ -2,3 +2,5 @@
 pub mod Outcome
 pub mod Numbers
 pub mod Limits
+-- Lists whose entries follow a rule, for the crates above.
+pub mod Tables

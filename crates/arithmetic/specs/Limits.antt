@@ -30,11 +30,15 @@ mbedgeLimit level interior = min ((level + 2) * 2 + interior) 255
 unfoldable pub subBedgeLimit : (level interior : ℕ) → ℕ
 subBedgeLimit level interior = min (level * 2 + interior) 255
 
-unfoldable pub derive : (level sharpness : ℕ) (key : Bool) → LoopFilterParams
-derive level sharpness key =
+-- the four limits, from an interior limit that is given
+unfoldable pub withInterior : (level interior : ℕ) (key : Bool) → LoopFilterParams
+withInterior level interior key =
     record {
-      «interior_limit» = interiorLimit level sharpness;
+      «interior_limit» = interior;
       «hev_threshold» = hevThreshold level key;
-      «mbedge_limit» = mbedgeLimit level (interiorLimit level sharpness);
-      «sub_bedge_limit» = subBedgeLimit level (interiorLimit level sharpness);
+      «mbedge_limit» = mbedgeLimit level interior;
+      «sub_bedge_limit» = subBedgeLimit level interior;
     }
+
+unfoldable pub derive : (level sharpness : ℕ) (key : Bool) → LoopFilterParams
+derive level sharpness key = withInterior level (interiorLimit level sharpness) key

@@ -35,7 +35,7 @@ fn sharpness_cap(sharpness: u8) -> u8
     if sharpness < 9 { 9 - sharpness } else { 0 }
 }
 
-fn interior_limit(level: u8, sharpness: u8) -> u8
+pub fn interior_limit(level: u8, sharpness: u8) -> u8
     ensures { λ r. ⌜ r ≡ spec.interiorLimit level sharpness ⌝ }
 {
     if sharpness == 0 {
@@ -79,18 +79,28 @@ impl LoopFilterParams {
 
     pub const MAX_LEVEL: u8 = 63;
 
-    pub fn derive(loop_filter_level: u8, sharpness_level: u8, key_frame: bool) -> LoopFilterParams
-        ensures { λ r. ⌜ r ≡ spec.derive «loop_filter_level» «sharpness_level» «key_frame» ⌝ }
+    // The four limits, from an interior limit that is given.
+    pub fn with_interior(level: u8, interior: u8, key: bool) -> LoopFilterParams
+        ensures { λ r. ⌜ r ≡ spec.withInterior level interior key ⌝ }
     {
-        let interior = interior_limit(loop_filter_level, sharpness_level);
-        let threshold = hev_threshold(loop_filter_level, key_frame);
-        let macroblock = at_most_255((loop_filter_level as u16 + 2) * 2 + interior as u16);
-        let inner = at_most_255(loop_filter_level as u16 * 2 + interior as u16);
+        let threshold = hev_threshold(level, key);
+        let macroblock = at_most_255((level as u16 + 2) * 2 + interior as u16);
+        let inner = at_most_255(level as u16 * 2 + interior as u16);
         LoopFilterParams {
             interior_limit: interior,
             hev_threshold: threshold,
             mbedge_limit: macroblock,
             sub_bedge_limit: inner,
         }
+    }
+
+    pub fn derive(loop_filter_level: u8, sharpness_level: u8, key_frame: bool) -> LoopFilterParams
+        ensures { λ r. ⌜ r ≡ spec.derive «loop_filter_level» «sharpness_level» «key_frame» ⌝ }
+    {
+        LoopFilterParams::with_interior(
+            loop_filter_level,
+            interior_limit(loop_filter_level, sharpness_level),
+            key_frame,
+        )
     }
 }

@@ -14,7 +14,7 @@ use borrow.Author.Tests.{ltb-true}
 use Rattle.arithmetic.specs.Numbers.{clamp, u2s, s2u, shr}
 use Rattle.kernels.specs.Kernels as kernels
 use Rattle.kernels.specs.Segment.{subblockFilter, mbFilter, half, taps, smooth, gather, scatter, segment}
-use Rattle.arithmetic.specs.Limits.{atLeastOne, interiorLimit, hevThreshold, mbedgeLimit, subBedgeLimit, derive}
+use Rattle.arithmetic.specs.Limits.{atLeastOne, interiorLimit, hevThreshold, mbedgeLimit, subBedgeLimit, withInterior, derive}
 use Rattle.arithmetic.specs.Outcome.{Outcome, gives, refuses}
 use Rattle.levels.specs.Encodings.{modeOf, referenceOf, interModeOf, badMode, badReference, badInterMode}
 use Rattle.levels.specs.Levels as levels
@@ -236,7 +236,7 @@ pub record Shown : Type 0 where
       ≡ rows 0 0 ∷ rows 0 0 ∷ rows 13 5 ∷ rows 13 5 ∷ rows 13 5 ∷ rows 32 16 ∷ refuses 7 ∷ []
 
 pub shown : Shown
-unfolding clamp u2s s2u shr atLeastOne interiorLimit hevThreshold mbedgeLimit subBedgeLimit derive half taps smooth gather scatter segment
+unfolding clamp u2s s2u shr atLeastOne interiorLimit hevThreshold mbedgeLimit subBedgeLimit withInterior derive half taps smooth gather scatter segment
     kernels.apart kernels.edgeValue kernels.filterValue kernels.gainOf kernels.lossOf kernels.adjustment kernels.adjustedP0 kernels.adjustedQ0 kernels.commonAdjust
     kernels.simpleYes kernels.simpleSegment kernels.filterYes kernels.hev kernels.segmentYes kernels.segmentHev kernels.outerStep kernels.subblockFilter
     kernels.part kernels.wideValue kernels.mbFilter

@@ -1,5 +1,4 @@
 -- What several proofs share.
-pub mod Tables
 pub mod TapNumbers
 pub mod TapPositions
 pub mod TapsFirst

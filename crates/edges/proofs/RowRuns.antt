@@ -19,7 +19,7 @@ use Rattle.planes.specs.Edges.{horizontal}
 use Rattle.edges.specs.EdgeFrom.{tapFrom, edgeFrom}
 use Rattle.edges.specs.Private.Runs.{rowAt, rowsAt, storeRow, storeRowOf, storeSix, storeFour, SignedRow, SignedRows, SignedInner, innerTaps, edgeTaps, positionOf, edgeOf, normalKernel, runOfEight, runOfFour}
 use Rattle.planes.proofs.Steps.{steps-ext}
-use Rattle.edges.proofs.Tables.{getD-table}
+use Rattle.arithmetic.proofs.Tables.{getD-table}
 use Rattle.edges.proofs.TapNumbers.{s2u-u2s}
 use Rattle.edges.proofs.TapPositions.{SignedSix, SignedTwo, mb-in, sub-in, simple-in}
 use Rattle.edges.proofs.TapsFirst.{storeTap, taps-first}

@@ -9,9 +9,10 @@ use lib.Arith.{digits-div, digits-mod}
 use lib.ListN.{length, getD, set, length-set}
 use lib.Seq.{set-comm, set-getD}
 use lib.IntN.{ℤ, pos}
+use Rattle.arithmetic.specs.Tables.{table}
 use Rattle.arithmetic.specs.Numbers.{s2u}
 use Rattle.planes.specs.Steps.{steps}
-use Rattle.edges.specs.Private.Runs.{table, rowAt, rowsAt, storeRow, storeRowOf, storeSix, storeFour}
+use Rattle.edges.specs.Private.Runs.{rowAt, rowsAt, storeRow, storeRowOf, storeSix, storeFour}
 use Rattle.planes.proofs.Steps.{steps-suc, steps-inv}
 use Rattle.planes.proofs.RowsFirst.{steps-past, steps-commute}
 

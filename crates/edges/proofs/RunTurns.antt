@@ -9,12 +9,13 @@ use lib.IntN.{ℤ, pos}
 use mir.Syntax.{w16}
 use mir.Val.{toZ, ofZ, SFits}
 use mir.Facts.{toZ-ofZ}
+use Rattle.arithmetic.specs.Tables.{table, fill}
 use Rattle.kernels.specs.Segment.{Kernel}
 use Rattle.edges.specs.declared.run.InnerTaps.{InnerTaps}
 use Rattle.edges.specs.declared.run.EdgeTaps.{EdgeTaps}
-use Rattle.edges.specs.Private.Runs.{table, tapOf, innerTaps, edgeTaps, storeTap, storeInner, positionOf, edgeOf, runOfEight, runOfFour, SignedRows, SignedEight, SignedFour}
+use Rattle.edges.specs.Private.Runs.{tapOf, innerTaps, edgeTaps, storeTap, storeInner, positionOf, edgeOf, runOfEight, runOfFour, SignedRows, SignedEight, SignedFour}
 use Rattle.edges.proofs.TapNumbers.{back, stays}
-use Rattle.edges.proofs.Tables.{length-table, getD-table, fill, fill-none, fill-turn, fill-end}
+use Rattle.arithmetic.proofs.Tables.{length-table, getD-table, fill-none, fill-turn, fill-end}
 
 -- what a tap is read back as
 abbrev pub read : ℤ → ℤ

@@ -3,6 +3,7 @@ use crate::normal;
 use crate::simple;
 use arithmetic::limits::LoopFilterParams;
 use levels::config::FrameFilterConfig;
+use limit_table::table::limits_at;
 use planes::layout::PlaneLayout;
 ghost use mathlib.Core.Path.{_≡_};
 ghost use Prim.Native.Nat.{_+_, _*_, _/_, _%_, _≤_, _<_};
@@ -120,7 +121,7 @@ pub(crate) fn filter_macroblock(
     ensures { λ _. ⌜ planesOf (now (y .exit)) (now (u .exit)) (now (v .exit))
         ≡ filterMacroblock (gridOf layout) (λ _. planAt config level inside) m (planesOf (now (y .entry)) (now (u .entry)) (now (v .entry))) ⌝ }
 {
-    let limits = LoopFilterParams::derive(level, config.sharpness_level, config.key_frame);
+    let limits = limits_at(level, config.sharpness_level, config.key_frame);
     if level != 0 {
         filter_with(y, u, v, layout, config.simple, m, limits, inside);
     }

@@ -6,7 +6,7 @@ use Prim.Native.Nat.{ℕ}
 use lib.IntN.{ℤ, pos, negsuc}
 use Rattle.arithmetic.specs.Outcome.{Outcome, gives}
 use Rattle.arithmetic.specs.Numbers.{clamp, u2s, s2u, shr}
-use Rattle.arithmetic.specs.Limits.{atLeastOne, interiorLimit, hevThreshold, mbedgeLimit, subBedgeLimit, derive}
+use Rattle.arithmetic.specs.Limits.{atLeastOne, interiorLimit, hevThreshold, mbedgeLimit, subBedgeLimit, withInterior, derive}
 use Rattle.kernels.specs.Kernels as kernels
 use Rattle.kernels.specs.Segment.{Kernel, simpleSegment, subblockFilter, mbFilter, half, taps, smooth, gather, scatter, segment, fitsAt, windowed}
 use Rattle.arithmetic.specs.declared.limits.LoopFilterParams.{LoopFilterParams}
@@ -91,7 +91,7 @@ figures =
 
 -- all of them hold
 pub figures-hold : map (λ f. f .given) figures ≡ map (λ f. f .printed) figures
-unfolding clamp u2s s2u shr atLeastOne interiorLimit hevThreshold mbedgeLimit subBedgeLimit derive
+unfolding clamp u2s s2u shr atLeastOne interiorLimit hevThreshold mbedgeLimit subBedgeLimit withInterior derive
     half taps smooth gather scatter segment fitsAt windowed
     kernels.apart kernels.edgeValue kernels.filterValue kernels.gainOf kernels.lossOf kernels.adjustment kernels.adjustedP0 kernels.adjustedQ0 kernels.commonAdjust
     kernels.simpleYes kernels.simpleSegment kernels.filterYes kernels.hev kernels.segmentYes kernels.segmentHev kernels.outerStep kernels.subblockFilter

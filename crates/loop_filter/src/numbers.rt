@@ -3,6 +3,7 @@ use arithmetic::limits::LoopFilterParams;
 ghost use mathlib.Core.Path.{_≡_};
 ghost use Rattle.arithmetic.specs.Numbers as num;
 ghost use Rattle.arithmetic.specs.Limits as limits;
+ghost use Rattle.limit_table.specs.InteriorLimits.{bytesTaken, withBytes};
 
 #[no_mangle]
 pub extern "C" fn vp8lf_clamp_s8(v: i32) -> i8
@@ -45,4 +46,13 @@ pub extern "C" fn vp8lf_derive(
     *hev_threshold = p.hev_threshold;
     *mbedge_limit = p.mbedge_limit;
     *sub_bedge_limit = p.sub_bedge_limit;
+}
+
+// Writes the first bytes of the table of interior limits, as many as the buffer takes, and returns how many.
+#[no_mangle]
+pub extern "C" fn vp8lf_interior_limits(limits: &mut [u8]) -> usize
+    ensures { λ r. ⌜ r ≡ bytesTaken (now (limits .entry)) ⌝ }
+    ensures { λ _. ⌜ now (limits .exit) ≡ withBytes (now (limits .entry)) ⌝ }
+{
+    limit_table::table::copy_interior_limits(limits)
 }

@@ -14,8 +14,10 @@ const APART: [&str; 6] = [
     "kernels::whole::whole",
 ];
 
-/// Kernels and runs that are to lie in those loops: of these modules no other function is left.
-const INLINED: [&str; 5] = ["kernels::", "edges::run::", "edges::taps::", "edges::room::", "arithmetic::"];
+/// Kernels and runs that are to lie in those loops, and the look-up of a limit, which is to lie in the step of a macroblock: of these
+/// modules no other function is left.
+const INLINED: [&str; 6] =
+    ["kernels::", "edges::run::", "edges::taps::", "edges::room::", "arithmetic::", "limit_table::"];
 
 fn library() -> PathBuf {
     let directory = std::env::var_os("VP8LF_LIB_DIR").filter(|name| !name.is_empty()).map(PathBuf::from);

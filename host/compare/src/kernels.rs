@@ -185,9 +185,9 @@ impl fmt::Display for Kernel {
 
 #[derive(Clone, Copy)]
 pub struct Limits {
-    threshold: u8,
-    interior: u8,
-    edge: u8,
+    pub threshold: u8,
+    pub interior: u8,
+    pub edge: u8,
 }
 
 impl Limits {

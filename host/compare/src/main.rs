@@ -13,6 +13,7 @@ mod halting;
 mod kernels;
 mod levels;
 mod limits;
+mod lookups;
 mod numbers;
 mod pairs;
 mod passes;
@@ -28,6 +29,7 @@ mod smaller_call;
 mod soak;
 mod sources;
 mod stills;
+mod table;
 mod tally;
 mod vast;
 mod windows;
@@ -45,6 +47,7 @@ type Comparison = fn(&Plan, &mut Tally);
 const MODULES: &[(&str, Comparison)] = &[
     ("numbers", numbers::compare),
     ("limits", limits::compare),
+    ("table", table::compare),
     ("kernels", kernels::compare),
     ("windows", windows::compare),
     ("slices", slices::compare),

@@ -33,20 +33,24 @@ pub const SIMPLE: [&str; 7] = [
 ];
 
 /// p3 to p0 and q0 to q3, with the edge between p0 and q0.
-type Taps = [u8; 8];
+pub type Taps = [u8; 8];
 
-/// The lowest sample of a row.
+/// p0 of every step.
 const LOW: u8 = 60;
+
+/// A step up of this height from p0 to q0, with p1 and q1 so far above them, and level beyond.
+pub fn bent(height: i32, p: i32, q: i32) -> Taps {
+    let [p0, q0] = [LOW as i32, LOW as i32 + height];
+    [p0 + p, p0 + p, p0 + p, p0, q0, q0 + q, q0 + q, q0 + q].map(|sample| sample as u8)
+}
 
 /// A step up whose height the filters measure as `measure`, 2 x |p0 - q0| + |p1 - q1| / 2. Neighbours on one side
 /// differ by 1 at most.
 fn step(measure: u8) -> Taps {
     let measured = |height: i32, p: i32, q: i32| 2 * height + (height + q - p).abs() / 2;
-    let bent = (0..=100).flat_map(|height| [0, -1, 1].map(|p| [0, -1, 1].map(|q| (height, p, q)))).flatten();
-    let (height, p, q) =
-        bent.into_iter().find(|(height, p, q)| measured(*height, *p, *q) == measure as i32).expect("a step");
-    let [p0, q0] = [LOW as i32, LOW as i32 + height];
-    [p0 + p, p0 + p, p0 + p, p0, q0, q0 + q, q0 + q, q0 + q].map(|sample| sample as u8)
+    let mut steps = (0..=100).flat_map(|height| [0, -1, 1].map(|p| [0, -1, 1].map(|q| (height, p, q)))).flatten();
+    let (height, p, q) = steps.find(|(height, p, q)| measured(*height, *p, *q) == measure as i32).expect("a step");
+    bent(height, p, q)
 }
 
 /// A step that no edge limit of a level above 0 leaves alone, with this difference of neighbours on one side.

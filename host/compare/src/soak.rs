@@ -2,18 +2,21 @@
 
 use crate::call::PASSES;
 use crate::tally::grouped;
-use crate::{coefficients, final_rows, kernels, levels, limits, numbers, passes, search, slices, sources, stills};
+use crate::{
+    coefficients, final_rows, kernels, levels, limits, numbers, passes, search, slices, sources, stills, table,
+};
 use rules::random::Random;
 use std::process::ExitCode;
 use std::time::{Duration, Instant, SystemTime, UNIX_EPOCH};
 
 /// The functions of the header in its order, without `vp8lf_`, and the numbers that each can refuse a call with. The
 /// largest grid's sum is far below 64 bits, so 10 cannot come.
-const ENTRIES: [(&str, &[u8]); 21] = [
+const ENTRIES: [(&str, &[u8]); 22] = [
     ("clamp_s8", &[]),
     ("u2s", &[]),
     ("s2u", &[]),
     ("derive", &[]),
+    ("interior_limits", &[]),
     ("common_adjust", &[4]),
     ("simple_segment", &[4]),
     ("subblock_filter", &[4]),
@@ -44,6 +47,7 @@ fn draws() -> Vec<(usize, Draw)> {
     let mut draws: Vec<(usize, Draw)> = vec![
         (2_000, Box::new(numbers::draw)),
         (2_000, Box::new(limits::draw)),
+        (100, table::drawer()),
         (2_000, kernels::drawer()),
         (20, slices::drawer()),
         (5_000, Box::new(levels::draw)),
@@ -186,9 +190,9 @@ mod tests {
 
     #[test]
     fn few_turns_reach_every_entry_and_refusal_and_a_seed_determines_them() {
-        let (calls, next) = after_turns(8, 1);
+        let (calls, next) = after_turns(16, 1);
         assert_eq!(calls.missing(), [""; 0]);
-        assert_eq!(after_turns(8, 1), (calls, next));
+        assert_eq!(after_turns(16, 1), (calls, next));
         assert_ne!(after_turns(1, 2), after_turns(1, 1));
     }
 

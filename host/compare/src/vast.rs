@@ -1,5 +1,5 @@
-//! Slices of more than 2^32 bytes: windows about 2^31 and 2^32, planes longer than they need be, and lists whose length is
-//! right in 32 bits only. Little of such a slice is ever touched, so little of it is memory.
+//! Slices of more than 2^32 bytes: windows about 2^31 and 2^32, buffers and planes longer than they need be, and lists
+//! whose length is right in 32 bits only. Little of such a slice is ever touched, so little of it is memory.
 
 use crate::Plan;
 use crate::call::{ByteLists, Call, FLAGS, PASSES, Pass, Planes, SEGMENTS};
@@ -9,6 +9,7 @@ use crate::kernels::{ENTRIES, Kernel, KernelOf, UNTOUCHED, middle, window};
 use crate::pictures::picture;
 use crate::search::{Search, against_source};
 use crate::stills::Expected;
+use crate::table::{TABLE, by_the_rust};
 use crate::tally::{Kind, Tally};
 use rules::Scored;
 use rules::random::Random;
@@ -32,6 +33,7 @@ pub fn compare(plan: &Plan, tally: &mut Tally) {
     for (name, _, kernel) in ENTRIES {
         tally.run(&format!("{name}, above 2^32 bytes"), &KERNELS, |kind| kernels(kernel, &mut random, &mut vast, kind));
     }
+    tally.run("interior_limits, 2^32 bytes and more", &["short in 32 bits"], |kind| table(&mut vast, kind));
     tally.run("mb_has_coeffs, 2^32 numbers and more", &["first number set"], |kind| coefficients(&mut vast, kind));
     for pass in PASSES {
         let classes = [&PLANES[..], &[LIST]].concat();
@@ -83,6 +85,27 @@ fn at(kernel: Kernel, taps: &[u8; 8], base: usize, slice: &mut [u8]) -> Result<(
     Err(format!(
         "\n{what}\n  expected {expected:?}\n  library  {library:?} (answer, adjustment, bytes about the window)"
     ))
+}
+
+/// Lengths that are 0, 1, and one less than the table's in 32 bits.
+fn table(vast: &mut Guarded, kind: &mut Kind) -> Result<(), String> {
+    for len in [0, 1, TABLE - 1].map(|short| (1 << 32) + short) {
+        let buffer = &mut vast.all()[..len];
+        let what = format_args!("  interior_limits on a buffer of {len} zeros");
+        let count = guard::calling(&what, || ffi::interior_limits(buffer));
+        let (begin, rest) = buffer.split_at_mut(TABLE);
+        let end = rest.len() - AROUND;
+        let left = *begin == by_the_rust() && rest[..AROUND].iter().chain(&rest[end..]).all(|byte| *byte == 0);
+        begin.fill(0);
+        kind.add_cases(1);
+        kind.add_class("short in 32 bits", 1);
+        if count != TABLE || !left {
+            return Err(format!(
+                "\n{what}\n  expected count {TABLE}, library {count}; the buffer left as it must be: {left}"
+            ));
+        }
+    }
+    Ok(())
 }
 
 /// Lengths that are 0 and 1 in 32 bits.

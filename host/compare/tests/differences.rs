@@ -62,6 +62,17 @@ fn level_above_63() {
     assert_eq!(derived(255, 0, true), [255, 2, 255, 255]);
 }
 
+#[test]
+fn table_of_interior_limits() {
+    let mut limits = [0; 513];
+    assert_eq!(entries::interior_limits(&mut limits), 512);
+    assert_eq!(limits[288], 5);
+    assert_eq!(derived(32, 4, true)[0], 5);
+    let (table, after) = limits.split_at(512);
+    let rust: Vec<u8> = (0..512).map(|i: u16| derived((i % 64) as u8, (i / 64) as u8, false)[0]).collect();
+    assert_eq!((table, after), (&rust[..], &[0][..]));
+}
+
 // ---- kernels
 
 #[test]

@@ -446,6 +446,21 @@ fn levels_limits_and_coefficients() {
     }
 }
 
+/// The table has the Rust's limit of each level and sharpness that a header can have.
+#[test]
+fn table_of_interior_limits() {
+    let limits = here::interior_limits();
+    assert_eq!((limits.len(), limits[0].len()), (8, 64));
+    for (sharpness, row) in (0..).zip(limits) {
+        for (level, limit) in (0..).zip(row) {
+            for key in [false, true] {
+                let old = oracle::LoopFilterParams::derive(level, sharpness, key);
+                assert_eq!(limit, old.interior_limit, "level {level}, sharpness {sharpness}, key {key}");
+            }
+        }
+    }
+}
+
 #[test]
 fn constants() {
     use oracle::loop_filter as old;

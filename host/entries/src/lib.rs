@@ -8,7 +8,10 @@ use vp8_loop_filter::{Planes, PlanesMut, Scratch, SourcePlanes};
 
 pub use rules::Layout;
 
-pub use lent::{clamp_s8, common_adjust, derive, mb_filter, mb_has_coeffs, s2u, simple_segment, subblock_filter, u2s};
+pub use lent::{
+    clamp_s8, common_adjust, derive, interior_limits, mb_filter, mb_has_coeffs, s2u, simple_segment, subblock_filter,
+    u2s,
+};
 
 /// Which pass a C function runs.
 #[derive(Clone, Copy, Debug, PartialEq)]

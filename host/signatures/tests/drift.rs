@@ -110,6 +110,9 @@ fn types_and_constness_of_the_header() {
         ("int32_t *adjustment", "uint32_t *adjustment"),
         ("int32_t *adjustment", "const int32_t *adjustment"),
         ("int32_t *adjustment", "int32_t adjustment"),
+        ("size_t vp8lf_interior_limits", "uint8_t vp8lf_interior_limits"),
+        ("uint8_t *limits", "const uint8_t *limits"),
+        ("uint8_t *limits, size_t limits_len", "uint8_t *limits"),
         ("const int16_t *coeffs", "int16_t *coeffs"),
         ("const uint8_t *modes", "uint8_t *modes"),
         ("size_t base", "uint64_t base"),
@@ -130,6 +133,8 @@ fn types_and_constness_of_rattle() {
     for (from, to) in [
         ("fn vp8lf_u2s(v: u8) -> i8", "fn vp8lf_u2s(v: u8) -> u8"),
         ("fn vp8lf_u2s(v: u8) -> i8", "fn vp8lf_u2s(v: u8)"),
+        ("limits: &mut [u8]) -> usize", "limits: &[u8]) -> usize"),
+        ("limits: &mut [u8]) -> usize", "limits: &mut [u8]) -> u64"),
         ("adjustment: &mut i32", "adjustment: &i32"),
         ("coeffs: &[i16]", "coeffs: &mut [i16]"),
         ("coeffs: &[i16]", "coeffs: &i16"),
@@ -146,6 +151,8 @@ fn types_and_constness_of_rattle() {
 fn types_and_constness_of_the_rust() {
     for (from, to) in [
         ("fn vp8lf_u2s(v: u8) -> i8", "fn vp8lf_u2s(v: u8) -> u8"),
+        ("limits: *mut u8", "limits: *const u8"),
+        ("limits_len: usize) -> usize", "limits_len: usize) -> u8"),
         ("coeffs: *const i16", "coeffs: *mut i16"),
         ("coeffs_len: usize", "coeffs_len: u32"),
         ("seg: *mut u8", "seg: *const u8"),

@@ -6,18 +6,19 @@ use std::io::{BufRead, BufReader};
 use std::process::{Command, Stdio};
 
 /// The modules of `compare` to try first, for functions whose names begin so.
-const MODULES: [(&str, &[&str]); 15] = [
+const MODULES: [(&str, &[&str]); 16] = [
     ("vp8lf_clamp_s8", &["numbers"]),
     ("vp8lf_u2s", &["numbers"]),
     ("vp8lf_s2u", &["numbers"]),
     ("vp8lf_derive", &["limits"]),
+    ("vp8lf_interior_limits", &["table", "vast"]),
     ("vp8lf_common_adjust", &["slices", "vast", "kernels"]),
     ("vp8lf_simple_segment", &["slices", "vast", "kernels"]),
     ("vp8lf_subblock_filter", &["slices", "vast", "kernels"]),
     ("vp8lf_mb_filter", &["slices", "vast", "kernels"]),
     ("vp8lf_calculate_mb_filter_level", &["levels"]),
     ("vp8lf_mb_has_coeffs", &["coefficients", "vast"]),
-    ("vp8lf_filter", &["refusals", "grids", "vast", "passes", "halting"]),
+    ("vp8lf_filter", &["refusals", "grids", "vast", "table", "passes", "halting"]),
     ("vp8lf_final_rows", &["final_rows"]),
     ("vp8lf_reconstruction_ssd", &["search", "sources", "vast"]),
     ("vp8lf_select", &["search", "sources", "vast"]),

@@ -5,11 +5,11 @@
 //!
 //! # Safety
 //!
-//! - A plane, list or scratch plane is a pointer with its true length: as many bytes may be read there, and written where
-//!   the pointer is `*mut`. If the length is 0 it is not followed, and may be null.
+//! - A plane, list, buffer or scratch plane is a pointer with its true length: as many bytes may be read there, and
+//!   written where the pointer is `*mut`. If the length is 0 it is not followed, and may be null.
 //! - An out-parameter points to one number that may be written.
-//! - What is written (planes of a pass, scratch planes, out-parameters) overlaps nothing else that the call is lent, and
-//!   nobody else uses it while the call runs. What is only read may overlap what is only read.
+//! - What is written (planes of a pass, buffers, scratch planes, out-parameters) overlaps nothing else that the call is
+//!   lent, and nobody else uses it while the call runs. What is only read may overlap what is only read.
 
 #![deny(missing_docs)]
 #![allow(clippy::too_many_arguments)]
@@ -38,6 +38,13 @@ unsafe extern "C" {
         mbedge_limit: *mut u8,
         sub_bedge_limit: *mut u8,
     );
+
+    /// Writes the first bytes of the table of interior limits, as many as fit, and returns how many.
+    ///
+    /// # Safety
+    ///
+    /// `limits` points to `limits_len` bytes that may be written.
+    pub fn vp8lf_interior_limits(limits: *mut u8, limits_len: usize) -> usize;
 
     /// Moves p0 and q0 of a window of four bytes towards each other. Refusal 4.
     ///

@@ -1,7 +1,7 @@
 //! The C functions of the library, on slices and records. The one module with `unsafe`.
 //!
-//! Each function answers what its C function returns: 0, or the number of a refusal. The hosts that compare and time the
-//! library call it through this module too. It is no part of the crate's interface.
+//! Each function answers what its C function returns: where it can refuse, 0 or the number of the refusal. The hosts that
+//! compare and time the library call it through this module too. It is no part of the crate's interface.
 
 use crate::config::FrameFilterConfig;
 use crate::planes::{Planes, PlanesMut, Scratch, SourcePlanes};
@@ -52,6 +52,12 @@ pub fn derive(
             sub_bedge_limit,
         )
     }
+}
+
+pub fn interior_limits(limits: &mut [u8]) -> usize {
+    let (limits, len) = lend_mut(limits);
+    // SAFETY: the slice's own pointer and length.
+    unsafe { sys::vp8lf_interior_limits(limits, len) }
 }
 
 pub fn common_adjust(use_outer_taps: bool, seg: &mut [u8], base: usize, adjustment: &mut i32) -> u8 {

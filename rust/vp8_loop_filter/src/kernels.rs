@@ -56,6 +56,33 @@ impl LoopFilterParams {
     }
 }
 
+/// The number of values of the header's sharpness, which has 3 bits (RFC 6386, section 9.6).
+pub const SHARPNESS_LEVELS: usize = 8;
+
+/// The number of levels of a macroblock; the header's level has 6 bits (RFC 6386, section 9.6).
+pub const FILTER_LEVELS: usize = 64;
+
+/// The table of interior limits (RFC 6386, section 15.4). `limits[sharpness][level]` is what
+/// [`LoopFilterParams::derive`] derives as `interior_limit` from that level and that sharpness, with either key mark.
+///
+/// The passes read the same table for sharpness 0 to 7, and derive the limit above that. Each call copies the table's 512
+/// bytes: a caller that looks up many limits keeps the copy.
+///
+/// ```
+/// use vp8_loop_filter::{LoopFilterParams, interior_limits};
+///
+/// let limits = interior_limits();
+/// assert_eq!(limits[4][32], 5);
+/// assert_eq!(limits[4][32], LoopFilterParams::derive(32, 4, true).interior_limit);
+/// assert_eq!(limits.map(|row| row[63]), [63, 8, 7, 6, 5, 4, 3, 2]);
+/// ```
+pub fn interior_limits() -> [[u8; FILTER_LEVELS]; SHARPNESS_LEVELS] {
+    let mut limits = [[0; FILTER_LEVELS]; SHARPNESS_LEVELS];
+    // The buffer is as long as the table, so the count is its length.
+    let _ = entries::interior_limits(limits.as_flattened_mut());
+    limits
+}
+
 /// Moves p0 and q0 of the window p1 p0 q0 q1 at `base` towards each other, and answers what q0 lost. The outer taps
 /// p1 and q1 count if `use_outer_taps`. Can be refused with 4.
 pub fn common_adjust(use_outer_taps: bool, seg: &mut [u8], base: usize) -> Result<i32, Refusal> {

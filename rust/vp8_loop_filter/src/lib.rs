@@ -10,6 +10,7 @@
 //! - [`select_filter_params`] and [`select_filter_level`] choose a level for an encoder, [`full_search`] the best of all
 //!   levels and sharpness values for one that has the time, as for a still.
 //! - [`LoopFilterParams::derive`], [`calculate_mb_filter_level`] and the kernels such as [`mb_filter`] are the parts.
+//!   [`interior_limits`] is the table that the passes look limits up in.
 //!
 //! `docs/MIGRATING.md` has the lines that change in a caller of the Rust.
 
@@ -32,7 +33,10 @@ mod search;
 pub use config::{FrameFilterConfig, MAX_MB_SEGMENTS, MAX_MODE_LF_DELTAS, MAX_REF_LF_DELTAS};
 pub use frame_pass::FramePass;
 pub use full_search::{Best, full_search, full_search_in};
-pub use kernels::{LoopFilterParams, clamp_s8, common_adjust, mb_filter, s2u, simple_segment, subblock_filter, u2s};
+pub use kernels::{
+    FILTER_LEVELS, LoopFilterParams, SHARPNESS_LEVELS, clamp_s8, common_adjust, interior_limits, mb_filter, s2u,
+    simple_segment, subblock_filter, u2s,
+};
 pub use levels::{calculate_mb_filter_level, calculate_mb_filter_level_inter, mb_has_coeffs};
 pub use macroblock::{InterFilterInfo, InterMode, IntraYMode, MacroblockModes, MbCoeffs, RefFrame};
 pub use passes::{

@@ -1,21 +1,17 @@
 -- Horizontal edges as the private functions that filter them promise it: rows of taps, which are signed samples, the kernels on them by value, and rows stored back.
 use mathlib.Core.Bool.{Bool, cond}
-use mathlib.Core.List.{List, [], _∷_, _++_}
-use Prim.Native.Nat.{ℕ, zero, suc, _+_, _*_, _≤_, _<_}
+use mathlib.Core.List.{List, [], _∷_}
+use Prim.Native.Nat.{ℕ, _+_, _*_, _≤_, _<_}
 use lib.ListN.{getD, set}
 use lib.IntN.{ℤ, pos, _+ℤ_, _-ℤ_}
 use lib.Signed.{mag, ltZ}
 use Rattle.arithmetic.specs.Numbers.{clamp, u2s, s2u, shr}
+use Rattle.arithmetic.specs.Tables.{table}
 use Rattle.kernels.specs.Kernels.{part, gainOf, lossOf}
 use Rattle.kernels.specs.Segment.{Kernel, subblockFilter, mbFilter, smooth}
 use Rattle.planes.specs.Steps.{steps}
 use Rattle.edges.specs.declared.run.InnerTaps.{InnerTaps}
 use Rattle.edges.specs.declared.run.EdgeTaps.{EdgeTaps}
-
--- g 0, g 1, .., n of them
-unfoldable pub table : {A : Type 0} → (n : ℕ) → (ℕ → A) → List A
-table zero g = []
-table (suc n) g = table n g ++ (g n ∷ [])
 
 -- ---- rows
 

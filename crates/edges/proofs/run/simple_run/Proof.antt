@@ -6,6 +6,7 @@ use Prim.Native.Nat.{ℕ, _-_, _≤_, _<_}
 use native.Mathlib.Omega.{arith}
 use lib.ListN.{length, getD}
 use lib.IntN.{pos}
+use Rattle.arithmetic.specs.Tables.{fill}
 use Rattle.edges.proofs.TapNumbers as N
 use Rattle.kernels.specs.Segment.{simpleSegment}
 use Rattle.edges.specs.declared.run.EdgeTaps.{EdgeTaps}
@@ -13,7 +14,7 @@ use Rattle.edges.specs.Private.Runs.{fourAt, SignedFour}
 use Rattle.edges.proofs.ArrayRows.{row-long}
 use Rattle.edges.proofs.TapPositions.{simple-in}
 use Rattle.edges.proofs.RunTurns.{four-in, four-read, four-turn, four-end}
-use Rattle.edges.proofs.Tables.{fill, fill-none, fill-turn, fill-end}
+use Rattle.arithmetic.proofs.Tables.{fill-none, fill-turn, fill-end}
 use Rattle.edges.proofs.run.simple_run.Statement.{statement}
 use Rattle.edges.proofs.run.simple_run.Tie as tie
 

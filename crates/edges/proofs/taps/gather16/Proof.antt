@@ -5,11 +5,12 @@ use Prim.Native.Nat.{_+_, _-_, _≤_}
 use native.Mathlib.Omega.{arith}
 use lib.ListN.{length, getD}
 use mir.Syntax.{w16}
+use Rattle.arithmetic.specs.Tables.{fill}
 use Rattle.arithmetic.proofs.Ranges as R
 use denote.Ref.{now}
 use Rattle.arithmetic.specs.Numbers.{u2s}
 use Rattle.edges.specs.Private.Runs.{rowAt}
-use Rattle.edges.proofs.Tables.{fill, fill-none, fill-turn, fill-end}
+use Rattle.arithmetic.proofs.Tables.{fill-none, fill-turn, fill-end}
 use Rattle.edges.proofs.taps.gather16.Statement.{statement}
 use Rattle.edges.proofs.taps.gather16.Tie as tie
 

@@ -17,8 +17,8 @@ use Rattle.planes.specs.Edges.{places}
 use Rattle.frame.proofs.step.filter_macroblock.Statement.{statement}
 use Rattle.frame.proofs.step.filter_macroblock.Tie as tie
 
-derive-requires : tie.Need-derive-requires
-derive-requires c κs = search needs
+limits-at-requires : tie.Need-limits-at-requires
+limits-at-requires c κs = search needs
 
 filter-with-requires : tie.Need-filter-with-requires
 filter-with-requires c κs = search needs
@@ -42,7 +42,7 @@ returns c =
     let p = planesOf (now (x .y)) (now (x .u)) (now (x .v)) in
     let g = gridOf (x .layout) in
     j .filter-with .ensures
-    ∙ ap (λ (q : LoopFilterParams). filterMacroblock g (λ _. planWith (x .config .«simple») q (x .inside)) (x .m) p) (d .derive .ensures)
+    ∙ ap (λ (q : LoopFilterParams). filterMacroblock g (λ _. planWith (x .config .«simple») q (x .inside)) (x .m) p) (d .limits-at .ensures)
     ∙ ap (λ (b : Bool). filterMacroblock g (λ _. cond b leave (planWith (x .config .«simple») (derive (x .level) (x .config .«sharpness_level») (x .config .«key_frame»)) (x .inside))) (x .m) p) (sym (ne-eqb (x .level) 0 (t .if1 .taken)))
 
 returns-2 : tie.Need-returns-2
@@ -58,7 +58,7 @@ pub filter-macroblock-spec : {M : Type 1} → statement M
 filter-macroblock-spec =
     tie.close
     (tie.spec
-    derive-requires
+    limits-at-requires
     filter-with-requires
     same-length
     same-length-2

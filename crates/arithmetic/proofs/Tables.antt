@@ -1,4 +1,4 @@
--- Tables: a local array that a loop fills entry by entry.
+-- Tables, and an array that a loop fills entry by entry.
 use mathlib.Core.Path.{_≡_, refl, sym, _∙_}
 use mathlib.Core.List.{List, [], _∷_, _++_, append-nil}
 use mathlib.Core.Logic.{⊎-elim}
@@ -8,7 +8,7 @@ use native.Mathlib.Nat.{eq-or-lt-of-le}
 use native.Mathlib.Omega.{arith}
 use lib.ListN.{length, getD, set, drop, length-append, List·getD-append}
 use lib.Seq.{getD-at, drop-cons, append-snoc, set-at, drop-length}
-use Rattle.edges.specs.Private.Runs.{table}
+use Rattle.arithmetic.specs.Tables.{table, fill}
 
 module _ {A : Type 0} where
   pub length-table : (n : ℕ) (g : ℕ → A) → length (table n g) ≡ n
@@ -27,10 +27,6 @@ module _ {A : Type 0} where
   -- a store at the end of what is written
   step : (p : List A) (l : List A) (n : ℕ) (v : A) → n < length l → set (p ++ drop n l) (length p) v ≡ (p ++ (v ∷ [])) ++ drop (suc n) l
   step p l n v h = rw (drop-cons l n v h) (set-at p (getD l n v) (drop (suc n) l) v (length p) refl ∙ sym (append-snoc p v (drop (suc n) l)))
-
-  -- the array l, of which the first n are written
-  unfoldable pub fill : ℕ → (ℕ → A) → List A → List A
-  fill n g l = table n g ++ drop n l
 
   pub fill-none : (g : ℕ → A) (l : List A) → l ≡ fill 0 g l
   unfolding fill table

@@ -1,0 +1,2 @@
+-- The table, entry by entry.
+pub mod Entries

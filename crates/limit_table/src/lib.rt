@@ -1,0 +1,2 @@
+// The table of interior limits (change request 2).
+pub mod table;

@@ -71,7 +71,7 @@ pub fn limits_at(level: u8, sharpness: u8, key: bool) -> LoopFilterParams
 fn lesser(a: usize, b: usize) -> usize
     ensures { λ r. ⌜ r ≡ min a b ⌝ }
 {
-    if a <= b { a } else { b }
+    if a < b { a } else { b }
 }
 
 // Writes the table's first bytes into the slice, as many as it takes, and says how many.

@@ -1,6 +1,6 @@
 -- `limit_table::table::copy_interior_limits` meets its contract.
 -- Assumes nothing.
-use mathlib.Core.Path.{_≡_, refl, sym, ap, _∙_}
+use mathlib.Core.Path.{_≡_, refl, ap, _∙_}
 use mathlib.Core.List.{List, []}
 use Prim.Native.Nat.{ℕ, _-_, _≤_, _/_, _%_, min}
 use native.Mathlib.Omega.{arith}
@@ -8,7 +8,7 @@ use lib.ListN.{length, getD, length-set}
 use borrow.Author.Needs.{needs}
 use denote.Ref.{now}
 use Rattle.arithmetic.specs.Tables.{fill}
-use Rattle.limit_table.specs.InteriorLimits.{interiorLimits, interiorByte, bytesTaken, withBytes}
+use Rattle.limit_table.specs.InteriorLimits.{interiorByte, bytesTaken, withBytes}
 use Rattle.arithmetic.proofs.Tables.{fill-none, fill-turn}
 use Rattle.limit_table.proofs.table.copy_interior_limits.Statement.{statement}
 use Rattle.limit_table.proofs.table.copy_interior_limits.Tie as tie

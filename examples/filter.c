@@ -1,5 +1,6 @@
 /*
  * Filters a small picture, one row of macroblocks a call, and sends on the rows that are final after each call.
+ * It makes the frame call, as a viewer should: that leaves a frame alone if its header level is 0, as RFC 6386 asks.
  *
  *     cc -std=c99 -Wall -Wextra -Werror -Iinclude examples/filter.c target/staticlib/libloop_filter.a -o target/filter
  */
@@ -47,7 +48,7 @@ static uint8_t filter(void)
     struct vp8lf_done done = {.next = 0};
     while (done.next < lists.len) {             /* one row of macroblocks a call */
         struct vp8lf_rows final;
-        uint8_t refusal = vp8lf_filter(&planes, &lists, &settings, done.next, COLUMNS, &done);
+        uint8_t refusal = vp8lf_loop_filter(&planes, &lists, &settings, done.next, COLUMNS, &done);
         if (refusal == VP8LF_OK)
             refusal = vp8lf_rows_final(&planes, done.next, &final);
         if (refusal != VP8LF_OK)
@@ -67,7 +68,7 @@ static uint8_t filter_short_plane(void)
     struct vp8lf_lists lists = {.modes = zeros, .segments = zeros, .flags = zeros, .len = COLUMNS * ROWS};
     struct vp8lf_settings settings = {.key_frame = true, .loop_filter_level = 24};
     struct vp8lf_done done;
-    return vp8lf_filter(&planes, &lists, &settings, 0, COLUMNS * ROWS, &done);
+    return vp8lf_loop_filter(&planes, &lists, &settings, 0, COLUMNS * ROWS, &done);
 }
 
 int main(void)

@@ -170,7 +170,8 @@ uint8_t vp8lf_calculate_mb_filter_level_inter(bool simple, bool key_frame, uint8
 bool vp8lf_mb_has_coeffs(const int16_t *coeffs, size_t coeffs_len);
 
 /*
- * Passes (RFC 6386, section 15.1), which can be halted.
+ * Passes (RFC 6386, section 15.1), which can be halted. A header level of 0 by itself turns nothing off here: a decoder takes
+ * the frame calls, below.
  *
  * The grid has mb_cols columns and mb_rows rows of macroblocks, 16 by 16 samples of y and 8 by 8 of u and of v each.
  * Row r of a plane begins at r x its stride. Samples outside the grid never change.
@@ -217,6 +218,47 @@ uint8_t vp8lf_filter_inter_frame(uint8_t *y, size_t y_len, uint8_t *u, size_t u_
                                  int16_t ref_delta_altref, int16_t zero_mv_mode_delta, int16_t other_mv_mode_delta,
                                  int16_t split_mv_mode_delta, size_t start, size_t allowance, size_t *count,
                                  size_t *next);
+
+/*
+ * Frame calls: the passes, turned off by the frame header.
+ *
+ * A decoder or a viewer takes these. RFC 6386, section 15, leaves a frame alone if its header level is 0. The passes above
+ * do not test that level, as the Rust that they replace does not: where a delta or a segment's level lifts a macroblock
+ * above 0, they filter it.
+ *
+ * With loop_filter_level 0 a frame call changes no sample; with any other, 64 too, it does what the pass does. It is
+ * refused as the pass is, before anything is skipped. Macroblocks that are skipped count as done, so *count and *next are
+ * the pass's too, and vp8lf_final_rows counts rows as it does for the pass. What is said of a pass elsewhere in this header
+ * holds of a frame call.
+ */
+
+/* The frame call of a key frame. */
+uint8_t vp8lf_loop_filter_frame(uint8_t *y, size_t y_len, uint8_t *u, size_t u_len, uint8_t *v, size_t v_len,
+                                size_t mb_cols, size_t mb_rows, size_t y_stride, size_t uv_stride,
+                                const uint8_t *modes, size_t modes_len, const uint8_t *segments, size_t segments_len,
+                                const uint8_t *flags, size_t flags_len, bool simple, bool key_frame,
+                                uint8_t loop_filter_level, uint8_t sharpness_level, bool segmentation_enabled,
+                                bool segment_abs, int16_t segment_level_0, int16_t segment_level_1,
+                                int16_t segment_level_2, int16_t segment_level_3, bool delta_enabled,
+                                int16_t ref_delta_current, int16_t bpred_mode_delta, int16_t ref_delta_last,
+                                int16_t ref_delta_golden, int16_t ref_delta_altref, int16_t zero_mv_mode_delta,
+                                int16_t other_mv_mode_delta, int16_t split_mv_mode_delta, size_t start,
+                                size_t allowance, size_t *count, size_t *next);
+
+/* The frame call of an inter frame. */
+uint8_t vp8lf_loop_filter_inter_frame(uint8_t *y, size_t y_len, uint8_t *u, size_t u_len, uint8_t *v, size_t v_len,
+                                      size_t mb_cols, size_t mb_rows, size_t y_stride, size_t uv_stride,
+                                      const uint8_t *modes, size_t modes_len, const uint8_t *segments,
+                                      size_t segments_len, const uint8_t *flags, size_t flags_len,
+                                      const uint8_t *references, size_t references_len, const uint8_t *inter_modes,
+                                      size_t inter_modes_len, bool simple, bool key_frame, uint8_t loop_filter_level,
+                                      uint8_t sharpness_level, bool segmentation_enabled, bool segment_abs,
+                                      int16_t segment_level_0, int16_t segment_level_1, int16_t segment_level_2,
+                                      int16_t segment_level_3, bool delta_enabled, int16_t ref_delta_current,
+                                      int16_t bpred_mode_delta, int16_t ref_delta_last, int16_t ref_delta_golden,
+                                      int16_t ref_delta_altref, int16_t zero_mv_mode_delta,
+                                      int16_t other_mv_mode_delta, int16_t split_mv_mode_delta, size_t start,
+                                      size_t allowance, size_t *count, size_t *next);
 
 /*
  * Writes how many rows of samples, from the top, are final once the macroblocks before start are done: of y to *luma,
@@ -560,6 +602,24 @@ static inline uint8_t vp8lf_filter_inter(struct vp8lf_planes *planes, const stru
 {
     return vp8lf_filter_inter_frame(VP8LF_PLANES(planes), VP8LF_GRID(planes), VP8LF_INTER_LISTS(lists),
                                     VP8LF_SETTINGS(settings), start, allowance, &done->count, &done->next);
+}
+
+/* vp8lf_loop_filter_frame, which writes the planes. */
+static inline uint8_t vp8lf_loop_filter(struct vp8lf_planes *planes, const struct vp8lf_lists *lists,
+                                        const struct vp8lf_settings *settings, size_t start, size_t allowance,
+                                        struct vp8lf_done *done)
+{
+    return vp8lf_loop_filter_frame(VP8LF_PLANES(planes), VP8LF_GRID(planes), VP8LF_LISTS(lists),
+                                   VP8LF_SETTINGS(settings), start, allowance, &done->count, &done->next);
+}
+
+/* vp8lf_loop_filter_inter_frame, which writes the planes. */
+static inline uint8_t vp8lf_loop_filter_inter(struct vp8lf_planes *planes, const struct vp8lf_lists *lists,
+                                              const struct vp8lf_settings *settings, size_t start, size_t allowance,
+                                              struct vp8lf_done *done)
+{
+    return vp8lf_loop_filter_inter_frame(VP8LF_PLANES(planes), VP8LF_GRID(planes), VP8LF_INTER_LISTS(lists),
+                                         VP8LF_SETTINGS(settings), start, allowance, &done->count, &done->next);
 }
 
 /* vp8lf_final_rows, which reads the grid alone: a picture whose strides or planes are refused elsewhere is answered. */

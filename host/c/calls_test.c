@@ -1,8 +1,10 @@
 /*
- * Replays the recorded calls of crates/replay and crates/replay_search, whose files stdin it reads one after the other, through
- * the C functions: each must answer and leave what the Rust answered and left, or document 01's refusal. host/replay/src writes the
- * records, section by section. Where that program calls a function that takes records of macroblocks, this one calls the function
- * over byte lists. A full search, which is not recorded, is made on the call of each search.
+ * Replays the recorded calls of crates/replay and crates/replay_search, whose files stdin it reads one after the
+ * other, through the C functions: each must answer and leave what the Rust answered and left, or document 01's
+ * refusal. host/replay/src writes the records, section by section. Where that program calls a function that takes
+ * records of macroblocks, this one calls the function over byte lists. The frame call is made on the call of each
+ * pass too; at header level 0 it leaves the planes as they were. A full search, which is not recorded, is made on the
+ * call of each search.
  */
 #include "passes.h"
 
@@ -278,11 +280,25 @@ static void read_records(struct frame *f)
     }
 }
 
-static void call_pass(bool inter, const struct frame *f, size_t start, size_t allowance)
+/* The call as recorded; beside a pass the frame call: the same, but at header level 0 the planes as they were. */
+static void call_pass(bool frame_call, bool inter, const struct frame *f, size_t start, size_t allowance)
 {
-    size_t count = 77, next = 78;
-    uint8_t refusal = run_pass(inter, f, start, allowance, &count, &next);
+    static uint8_t before[3][4096], came[3][4096];
+    struct frame beside = *f;
+    size_t count = 77, next = 78, beside_count = 77, beside_next = 78;
+    memcpy(before, planes, sizeof before);
+    memcpy(came, planes, sizeof came);
+    for (int p = 0; p < 3; p++)
+        beside.planes[p] = came[p];
+    uint8_t refusal = run_pass(frame_call, inter, f, start, allowance, &count, &next);
     same_answer(refusal, count, next);
+    if (frame_call)
+        return;
+    expect(run_pass(true, inter, &beside, start, allowance, &beside_count, &beside_next) == refusal,
+           "the refusal of the frame call beside it");
+    expect(beside_count == count && beside_next == next, "a number of the frame call beside it");
+    expect(memcmp(came, f->settings.level == 0 ? before : planes, sizeof came) == 0,
+           "the samples of the frame call beside it");
 }
 
 /* Place, settings, lists or records. */
@@ -299,7 +315,7 @@ static struct frame read_call(struct place *p, bool records)
 }
 
 /* The answer stands before the picture. */
-static void changing(bool inter, bool records)
+static void changing(bool frame_call, bool inter, bool records)
 {
     struct place p;
     struct frame f = read_call(&p, records);
@@ -308,28 +324,28 @@ static void changing(bool inter, bool records)
     read_planes(LENGTHS);
     size_t after = at;
     at = answer;
-    call_pass(inter, &f, p.first, p.second);
+    call_pass(frame_call, inter, &f, p.first, p.second);
     at = after;
     same_planes(planes, LENGTHS);
 }
 
-static void idle(bool inter, bool records)
+static void idle(bool frame_call, bool inter, bool records)
 {
     struct place p;
     struct frame f = read_call(&p, records);
     draw_stripes(planes);
-    call_pass(inter, &f, p.first, p.second);
+    call_pass(frame_call, inter, &f, p.first, p.second);
     still_stripes(planes);
 }
 
-static void halted(bool inter)
+static void halted(bool frame_call, bool inter)
 {
     struct place p;
     struct frame f = read_call(&p, false);
     read_planes(LENGTHS);
-    call_pass(inter, &f, 0, p.second);
+    call_pass(frame_call, inter, &f, 0, p.second);
     same_planes(planes, LENGTHS);
-    call_pass(inter, &f, p.second, SIZE_MAX);
+    call_pass(frame_call, inter, &f, p.second, SIZE_MAX);
     same_planes(planes, LENGTHS);
 }
 
@@ -346,7 +362,7 @@ static void film(bool inter)
     read_planes(lengths);
     size_t after = at;
     at = answer;
-    call_pass(inter, &f, p.first, p.second);
+    call_pass(false, inter, &f, p.first, p.second);
     at = after;
     same_planes(planes, lengths);
 }
@@ -498,12 +514,18 @@ static void idle_search(bool inter, bool both)
     static void key_##name(void) { call_key; }                                                                      \
     static void inter_##name(void) { call_inter; }
 
-BOTH_PASSES(changing, changing(false, false), changing(true, false))
-BOTH_PASSES(idle, idle(false, false), idle(true, false))
-BOTH_PASSES(halted, halted(false), halted(true))
-BOTH_PASSES(records, changing(false, true), changing(true, true))
-BOTH_PASSES(idle_records, idle(false, true), idle(true, true))
+BOTH_PASSES(changing, changing(false, false, false), changing(false, true, false))
+BOTH_PASSES(idle, idle(false, false, false), idle(false, true, false))
+BOTH_PASSES(halted, halted(false, false), halted(false, true))
+BOTH_PASSES(records, changing(false, false, true), changing(false, true, true))
+BOTH_PASSES(idle_records, idle(false, false, true), idle(false, true, true))
 BOTH_PASSES(film, film(false), film(true))
+
+BOTH_PASSES(frame_changing, changing(true, false, false), changing(true, true, false))
+BOTH_PASSES(frame_idle, idle(true, false, false), idle(true, true, false))
+BOTH_PASSES(frame_halted, halted(true, false), halted(true, true))
+BOTH_PASSES(frame_records, changing(true, false, true), changing(true, true, true))
+BOTH_PASSES(frame_idle_records, idle(true, false, true), idle(true, true, true))
 
 /* One record for the sum, the search for both, and the search for the level. */
 static void twice(void (*searched)(bool, bool), bool inter)
@@ -549,6 +571,16 @@ static const struct {
     {"filter_inter_frame, film 64x64", inter_film, 1},
     {"filter_frame, film 16x16", key_film, 1},
     {"filter_inter_frame, film 16x16", inter_film, 1},
+    {"loop_filter_frame", key_frame_changing, 1},
+    {"loop_filter_inter_frame", inter_frame_changing, 1},
+    {"loop_filter_frame, nothing changes", key_frame_idle, 1},
+    {"loop_filter_inter_frame, nothing changes", inter_frame_idle, 1},
+    {"loop_filter_frame, halted and resumed", key_frame_halted, 2},
+    {"loop_filter_inter_frame, halted and resumed", inter_frame_halted, 2},
+    {"loop_filter_frame, recorded over records", key_frame_records, 1},
+    {"loop_filter_inter_frame, recorded over records", inter_frame_records, 1},
+    {"loop_filter_frame, recorded over records, nothing changes", key_frame_idle_records, 1},
+    {"loop_filter_inter_frame, recorded over records, nothing changes", inter_frame_idle_records, 1},
     {"sums and searches of the key pass", key_search, 4},
     {"sums and searches of the inter pass", inter_search, 4},
     {"sums and searches of the key pass, nothing changes", key_idle_search, 4},

@@ -1,7 +1,8 @@
 /*
  * film_test FILM.vplf: filters each frame of a film (host/film/README.md has the format) and holds it to the recorded
- * result: in one call, row by row, and seven macroblocks a call. Between two calls one that is refused changes nothing, and
- * the rows that are final are already the result's.
+ * result: in one call, row by row, and seven macroblocks a call, by the pass and by the frame call. Between two calls
+ * one that is refused changes nothing, and the rows that are final are already the result's. A frame call leaves a
+ * frame alone whose header turns the filter off. How many such frames the pass filters is printed.
  */
 #include "passes.h"
 
@@ -11,12 +12,13 @@
 
 enum { HEADER = 64, MACROBLOCK = 6 + 2 * 384 };
 
-static unsigned frames, runs;
+static unsigned frames, runs, left_alone, lifted;
+static const char *by = "";
 static uint64_t sum = 0xCBF29CE484222325u;
 
 static void fail(const char *what)
 {
-    printf("film: frame %u: %s\n", frames, what);
+    printf("film: frame %u%s: %s\n", frames, by, what);
     exit(1);
 }
 
@@ -57,6 +59,8 @@ struct recorded {
     size_t n;
     const uint8_t *before, *added;
     uint8_t *samples, *after;
+    /* The header level is 0, and the decoder of the RFC left the frame as it was. */
+    bool turned_off;
 };
 
 static struct recorded read_frame(const uint8_t *bytes, size_t left)
@@ -67,7 +71,7 @@ static struct recorded read_frame(const uint8_t *bytes, size_t left)
     if (columns < 1 || columns > 1024 || rows < 1 || rows > 1024 || left - HEADER < MACROBLOCK * n)
         fail("its grid is no grid, or its bytes are not all there");
     const uint8_t *lists = bytes + HEADER;
-    struct recorded r = {.n = n, .before = lists + 6 * n, .added = lists + 390 * n};
+    struct recorded r = {.n = n, .before = lists + 6 * n, .added = lists + 390 * n, .turned_off = bytes[56] != 0};
     r.samples = malloc(2 * 384 * n);
     if (r.samples == NULL)
         fail("no memory");
@@ -82,62 +86,75 @@ static struct recorded read_frame(const uint8_t *bytes, size_t left)
     return r;
 }
 
+/* What the pass or the frame call leaves of a frame. */
+static const uint8_t *result(const struct recorded *r, bool frame_call)
+{
+    return frame_call && r->turned_off ? r->before : r->after;
+}
+
 /* A start behind the last macroblock is refused; nothing changes. The copy is as long as the samples. */
-static void refused_call(const struct recorded *r, bool inter, uint8_t *copy)
+static void refused_call(const struct recorded *r, bool frame_call, bool inter, uint8_t *copy)
 {
     size_t count = 77, next = 78;
     memcpy(copy, r->samples, 384 * r->n);
-    if (run_pass(inter, &r->frame, r->n + 1, 1, &count, &next) != VP8LF_START_TOO_LARGE)
+    if (run_pass(frame_call, inter, &r->frame, r->n + 1, 1, &count, &next) != VP8LF_START_TOO_LARGE)
         fail("a start behind the last macroblock is not refused");
     if (count != 77 || next != 78 || memcmp(copy, r->samples, 384 * r->n) != 0)
         fail("a refused call changed something");
 }
 
 /* The rows that are final are the result's; at the end all are. */
-static void final_rows(const struct recorded *r, size_t next)
+static void final_rows(const struct recorded *r, const uint8_t *left, size_t next)
 {
     size_t luma = 0, chroma = 0, columns = r->frame.columns, n = r->n;
     if (vp8lf_final_rows(columns, r->frame.rows, 16 * columns, 8 * columns, next, &luma, &chroma) != VP8LF_OK)
         fail("final rows are refused");
     if (next == n && (luma != 16 * r->frame.rows || chroma != 8 * r->frame.rows))
         fail("rows are not final at the end");
-    if (memcmp(r->samples, r->after, luma * 16 * columns) != 0
-        || memcmp(r->samples + 256 * n, r->after + 256 * n, chroma * 8 * columns) != 0
-        || memcmp(r->samples + 320 * n, r->after + 320 * n, chroma * 8 * columns) != 0)
+    if (memcmp(r->samples, left, luma * 16 * columns) != 0
+        || memcmp(r->samples + 256 * n, left + 256 * n, chroma * 8 * columns) != 0
+        || memcmp(r->samples + 320 * n, left + 320 * n, chroma * 8 * columns) != 0)
         fail("a row that is final is not the result's");
 }
 
 /* One run over a frame, so many macroblocks a call. */
-static void run(const struct recorded *r, bool inter, size_t allowance, uint8_t *copy)
+static void run(const struct recorded *r, bool frame_call, size_t allowance, uint8_t *copy)
 {
+    const uint8_t *left = result(r, frame_call);
+    bool inter = !r->frame.settings.key_frame;
     size_t count = 0, next = 0;
+    by = frame_call ? ", by the frame call" : ", by the pass";
     memcpy(r->samples, r->before, 384 * r->n);
     while (next < r->n) {
         size_t start = next, due = r->n - start < allowance ? r->n - start : allowance;
-        if (run_pass(inter, &r->frame, start, allowance, &count, &next) != VP8LF_OK)
+        if (run_pass(frame_call, inter, &r->frame, start, allowance, &count, &next) != VP8LF_OK)
             fail("refused");
         if (count != due || next != start + due)
             fail("another number of macroblocks was done");
-        refused_call(r, inter, copy);
-        final_rows(r, next);
+        refused_call(r, frame_call, inter, copy);
+        final_rows(r, left, next);
     }
     add_to_sum(r->samples, 384 * r->n);
-    if (memcmp(r->samples, r->after, 384 * r->n) != 0)
+    if (memcmp(r->samples, left, 384 * r->n) != 0)
         fail("another result than the recorded one");
     runs++;
+    by = "";
 }
 
 /* Filters the first frame of the bytes, and answers its length. */
 static size_t filter(const uint8_t *bytes, size_t left)
 {
     struct recorded r = read_frame(bytes, left);
-    bool inter = !r.frame.settings.key_frame;
     uint8_t *copy = malloc(384 * r.n);
     if (copy == NULL)
         fail("no memory");
-    run(&r, inter, r.n, copy);
-    run(&r, inter, r.frame.columns, copy);
-    run(&r, inter, 7, copy);
+    for (int frame_call = 0; frame_call < 2; frame_call++) {
+        run(&r, frame_call == 1, r.n, copy);
+        run(&r, frame_call == 1, r.frame.columns, copy);
+        run(&r, frame_call == 1, 7, copy);
+    }
+    left_alone += r.turned_off;
+    lifted += r.turned_off && memcmp(r.before, r.after, 384 * r.n) != 0;
     free(copy);
     free(r.samples);
     return HEADER + MACROBLOCK * r.n;
@@ -167,7 +184,8 @@ int main(int argc, char **argv)
     for (size_t at = 0; at < len; frames++)
         at += filter(bytes + at, len - at);
     free(bytes);
-    printf("film: %u frames, %u runs, all equal; sum %08lx%08lx\n", frames, runs, (unsigned long)(sum >> 32),
-           (unsigned long)(sum & 0xFFFFFFFFu));
+    printf("film: %u frames, %u runs, all equal; frame calls left %u frames alone, %u of them filtered by the pass; "
+           "sum %08lx%08lx\n",
+           frames, runs, left_alone, lifted, (unsigned long)(sum >> 32), (unsigned long)(sum & 0xFFFFFFFFu));
     return 0;
 }

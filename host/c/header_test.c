@@ -1,6 +1,7 @@
 /*
- * Compiles against include/vp8_loop_filter.h and calls each function: the bench figures A to O of document 01, the ends of
- * the numbers, every refusal, NULL with length 0, and the functions over structs against those of the library.
+ * Compiles against include/vp8_loop_filter.h and calls each function: the bench figures A to O of document 01, the
+ * ends of the numbers, every refusal, NULL with length 0, the frame calls against the passes, and the functions over
+ * structs against those of the library.
  */
 #include "vp8_loop_filter.h"
 
@@ -255,6 +256,28 @@ static long long inter_pass(struct picture *p, struct call c)
                                     AT_63(false), c.start, c.allowance, &count_out, &next_out);
 }
 
+/* Level 63 for every macroblock at each header level, by its segment or by a delta. */
+static uint8_t header_level;
+static bool by_segments;
+#define LIFTED false, true, header_level, 0, by_segments, true, 63, 63, 63, 63, !by_segments, 63, 0, 0, 0, 0, 0, 0, 0
+
+static long long key_frame_call(struct picture *p, struct call c)
+{
+    count_out = next_out = 99;
+    return vp8lf_loop_filter_frame(p->y, c.y_len, p->u, c.u_len, p->v, c.v_len, c.mb_cols, c.mb_rows, c.y_stride,
+                                   c.uv_stride, p->modes, c.modes_len, p->segments, c.segments_len, p->flags,
+                                   c.flags_len, LIFTED, c.start, c.allowance, &count_out, &next_out);
+}
+
+static long long inter_frame_call(struct picture *p, struct call c)
+{
+    count_out = next_out = 99;
+    return vp8lf_loop_filter_inter_frame(p->y, c.y_len, p->u, c.u_len, p->v, c.v_len, c.mb_cols, c.mb_rows,
+                                         c.y_stride, c.uv_stride, p->modes, c.modes_len, p->segments, c.segments_len,
+                                         p->flags, c.flags_len, p->references, c.references_len, p->inter_modes,
+                                         c.inter_modes_len, LIFTED, c.start, c.allowance, &count_out, &next_out);
+}
+
 typedef long long (*pass)(struct picture *, struct call);
 
 static bool same_columns(const uint8_t *a, const uint8_t *b, size_t stride, size_t rows, size_t from, size_t to)
@@ -375,6 +398,55 @@ static void refused_passes(pass filter, bool inter)
     }
 }
 
+/* A call with every fault, answered on a zero grid. It loses one after the other: refused for the first left. */
+static void refused_in_order(pass filter)
+{
+    struct picture p = sawtooth();
+    struct call c = {.mb_cols = 1025, .start = SIZE_MAX, .allowance = SIZE_MAX};
+    p.modes[0] = 5;
+    refused_pass("every fault on a zero grid", VP8LF_OK, filter, p, c);
+    check("its count", 0, (long long)count_out);
+    check("its next start", 0, (long long)next_out);
+    c.mb_rows = whole.mb_rows;
+    refused_pass("every fault", VP8LF_GRID_TOO_LARGE, filter, p, c);
+    c.mb_cols = whole.mb_cols;
+    refused_pass("strides and what follows", VP8LF_BAD_STRIDE, filter, p, c);
+    c.y_stride = whole.y_stride;
+    c.uv_stride = whole.uv_stride;
+    refused_pass("planes and what follows", VP8LF_SHORT_PLANE, filter, p, c);
+    c.y_len = whole.y_len;
+    c.u_len = whole.u_len;
+    c.v_len = whole.v_len;
+    refused_pass("lists and what follows", VP8LF_WRONG_LENGTH, filter, p, c);
+    c.modes_len = c.segments_len = c.flags_len = c.references_len = c.inter_modes_len = 2;
+    refused_pass("a mode and a start", VP8LF_BAD_ENTRY, filter, p, c);
+    p.modes[0] = 4;
+    refused_pass("a start alone", VP8LF_START_TOO_LARGE, filter, p, c);
+    c.start = 2;
+    refused_pass("no fault, and none to do", VP8LF_OK, filter, p, c);
+    check("its count", 0, (long long)count_out);
+    check("its next start", 2, (long long)next_out);
+}
+
+/* The order of the passes' refusals; then the frame calls at header level 0, and at 63, where they are the passes. */
+static void refused_frame_calls(void)
+{
+    refused_in_order(key_pass);
+    refused_in_order(inter_pass);
+    for (unsigned i = 0; i < 4; i++) {
+        header_level = i % 2 == 0 ? 0 : 63;
+        by_segments = i / 2 == 1;
+        refused_passes(key_frame_call, false);
+        refused_passes(inter_frame_call, true);
+        refused_in_order(key_frame_call);
+        refused_in_order(inter_frame_call);
+        if (header_level > 0) {
+            figures_n_and_o(key_frame_call);
+            figures_n_and_o(inter_frame_call);
+        }
+    }
+}
+
 static void final_rows(size_t mb_cols, size_t mb_rows, size_t start, long long number, size_t luma, size_t chroma)
 {
     size_t luma_out = 99, chroma_out = 99;
@@ -469,6 +541,35 @@ static void null_kernels_and_passes(void)
     check("its count and next start", 0, (long long)(count_out + next_out));
 }
 
+/* The same of the frame calls at a header level. */
+static void null_frame_calls(uint8_t level)
+{
+    struct picture p = sawtooth();
+    header_level = level;
+#define HALT_LIFTED LIFTED, 0, 2, &count_out, &next_out
+    count_out = next_out = 99;
+    check("a frame call without planes", VP8LF_SHORT_PLANE,
+          vp8lf_loop_filter_frame(NO_BYTES, NO_BYTES, NO_BYTES, 2, 1, 32, 16, LISTS, HALT_LIFTED));
+    check("a frame call without chroma", VP8LF_SHORT_PLANE,
+          vp8lf_loop_filter_frame(p.y, 512, p.u, 128, NO_BYTES, 2, 1, 32, 16, LISTS, HALT_LIFTED));
+    check("a frame call without lists", VP8LF_WRONG_LENGTH,
+          vp8lf_loop_filter_frame(p.y, 512, p.u, 128, p.v, 128, 2, 1, 32, 16, NO_BYTES, NO_BYTES, NO_BYTES,
+                                  HALT_LIFTED));
+    check("an inter frame call without references", VP8LF_WRONG_LENGTH,
+          vp8lf_loop_filter_inter_frame(p.y, 512, p.u, 128, p.v, 128, 2, 1, 32, 16, LISTS, NO_BYTES, NO_BYTES,
+                                        HALT_LIFTED));
+    check("the count and next start of refused calls", 2 * 99, (long long)(count_out + next_out));
+    check("a frame call over nothing", VP8LF_OK,
+          vp8lf_loop_filter_frame(NO_BYTES, NO_BYTES, NO_BYTES, 0, 1, 0, 0, NO_BYTES, NO_BYTES, NO_BYTES,
+                                  HALT_LIFTED));
+    check("its count and next start", 0, (long long)(count_out + next_out));
+    count_out = next_out = 99;
+    check("an inter frame call over nothing", VP8LF_OK,
+          vp8lf_loop_filter_inter_frame(NO_BYTES, NO_BYTES, NO_BYTES, 1, 0, 0, 0, NO_BYTES, NO_BYTES, NO_BYTES,
+                                        NO_BYTES, NO_BYTES, HALT_LIFTED));
+    check("its count and next start", 0, (long long)(count_out + next_out));
+}
+
 static void null_sums_and_searches(void)
 {
     uint64_t sum = 99;
@@ -557,9 +658,10 @@ static struct vp8lf_settings settings_of(unsigned bits)
                                .split_mv_mode_delta = 5};
     return s;
 }
-#define NUMBERS(bits)                                                                                                 \
-    (bits) & 1, (bits) >> 1 & 1, 30, 3, (bits) >> 2 & 1, (bits) >> 3 & 1, 12, 13, 15, 18, (bits) >> 4 & 1, -1, 2, -4, \
-        6, -9, 14, -11, 5
+#define NUMBERS_AT(level, bits)                                                                                      \
+    (bits) & 1, (bits) >> 1 & 1, level, 3, (bits) >> 2 & 1, (bits) >> 3 & 1, 12, 13, 15, 18, (bits) >> 4 & 1, -1, 2, \
+        -4, 6, -9, 14, -11, 5
+#define NUMBERS(bits) NUMBERS_AT(30, bits)
 
 /* Every segment, reference, inter mode and mode, and one of each that is refused. */
 static void levels_of_structs(unsigned bits)
@@ -624,45 +726,51 @@ static void same_frame(const char *what, const struct frame *expected, const str
     check_bytes(what, (const uint8_t *)expected, (const uint8_t *)came, sizeof *came);
 }
 
-/* Two calls of the key pass, then one that is refused. */
-static void key_pass_of_structs(unsigned bits)
+/* Two calls of the key pass or of its frame call, then one that is refused. */
+static void key_pass_of_structs(unsigned bits, uint8_t level, bool frame_call)
 {
-    const struct vp8lf_settings s = settings_of(bits);
+    struct vp8lf_settings s = settings_of(bits);
     struct frame expected = uneven(), came = expected;
     struct vp8lf_planes planes = planes_of(&came);
     struct vp8lf_lists lists = lists_of(&came);
     struct vp8lf_done done = {0, 0};
-    for (size_t start = 0; start < 6; start = next_out) {
-        check("a call of vp8lf_filter",
-              vp8lf_filter_frame(FRAME(expected), 3, 2, 50, 27, THREE(expected), NUMBERS(bits), start, 4, &count_out,
-                                 &next_out),
-              vp8lf_filter(&planes, &lists, &s, done.next, 4, &done));
+    s.loop_filter_level = level;
+    for (size_t start = 0; start < 6; start += 4) {
+        check(frame_call ? "a call of vp8lf_loop_filter" : "a call of vp8lf_filter",
+              (frame_call ? vp8lf_loop_filter_frame : vp8lf_filter_frame)(
+                  FRAME(expected), 3, 2, 50, 27, THREE(expected), NUMBERS_AT(level, bits), start, 4, &count_out,
+                  &next_out),
+              (frame_call ? vp8lf_loop_filter : vp8lf_filter)(&planes, &lists, &s, done.next, 4, &done));
         check("its count", (long long)count_out, (long long)done.count);
         check("its next start", (long long)next_out, (long long)done.next);
         same_frame("its planes", &expected, &came);
     }
-    check("a start that is too large", VP8LF_START_TOO_LARGE, vp8lf_filter(&planes, &lists, &s, 7, 4, &done));
+    check("a start that is too large", VP8LF_START_TOO_LARGE,
+          (frame_call ? vp8lf_loop_filter : vp8lf_filter)(&planes, &lists, &s, 7, 4, &done));
     check("its next start stays", 6, (long long)done.next);
 }
 
 /* The same of the inter pass. */
-static void inter_pass_of_structs(unsigned bits)
+static void inter_pass_of_structs(unsigned bits, uint8_t level, bool frame_call)
 {
-    const struct vp8lf_settings s = settings_of(bits);
+    struct vp8lf_settings s = settings_of(bits);
     struct frame expected = uneven(), came = expected;
     struct vp8lf_planes planes = planes_of(&came);
     struct vp8lf_lists lists = lists_of(&came);
     struct vp8lf_done done = {0, 0};
-    for (size_t start = 0; start < 6; start = next_out) {
-        check("a call of vp8lf_filter_inter",
-              vp8lf_filter_inter_frame(FRAME(expected), 3, 2, 50, 27, FIVE(expected), NUMBERS(bits), start, 4,
-                                       &count_out, &next_out),
-              vp8lf_filter_inter(&planes, &lists, &s, done.next, 4, &done));
+    s.loop_filter_level = level;
+    for (size_t start = 0; start < 6; start += 4) {
+        check(frame_call ? "a call of vp8lf_loop_filter_inter" : "a call of vp8lf_filter_inter",
+              (frame_call ? vp8lf_loop_filter_inter_frame : vp8lf_filter_inter_frame)(
+                  FRAME(expected), 3, 2, 50, 27, FIVE(expected), NUMBERS_AT(level, bits), start, 4, &count_out,
+                  &next_out),
+              (frame_call ? vp8lf_loop_filter_inter : vp8lf_filter_inter)(&planes, &lists, &s, done.next, 4, &done));
         check("its count", (long long)count_out, (long long)done.count);
         check("its next start", (long long)next_out, (long long)done.next);
         same_frame("its planes", &expected, &came);
     }
-    check("a start that is too large", VP8LF_START_TOO_LARGE, vp8lf_filter_inter(&planes, &lists, &s, 7, 4, &done));
+    check("a start that is too large", VP8LF_START_TOO_LARGE,
+          (frame_call ? vp8lf_loop_filter_inter : vp8lf_filter_inter)(&planes, &lists, &s, 7, 4, &done));
     check("its next start stays", 6, (long long)done.next);
 }
 
@@ -881,13 +989,36 @@ static void null_in_structs(void)
     check("its sum", 99, (long long)best.sum);
 }
 
+/* The same of the frame calls at a header level. */
+static void null_in_frame_calls(uint8_t level)
+{
+    struct vp8lf_settings s = settings_of(0);
+    struct frame f = uneven();
+    struct vp8lf_planes planes = planes_of(&f);
+    struct vp8lf_planes no_planes = vp8lf_planes_of(NULL, 9999, NULL, 9999, NULL, 9999, 3, 2, 50, 27);
+    struct vp8lf_lists lists = lists_of(&f), no_lists = {.len = 6}, key_lists = lists;
+    struct vp8lf_done done = {99, 99};
+    s.loop_filter_level = level;
+    key_lists.references = key_lists.inter_modes = NULL;
+    check("planes that are NULL", VP8LF_SHORT_PLANE, vp8lf_loop_filter(&no_planes, &lists, &s, 0, 6, &done));
+    check("lists that are NULL", VP8LF_WRONG_LENGTH, vp8lf_loop_filter(&planes, &no_lists, &s, 0, 6, &done));
+    check("references that are NULL", VP8LF_WRONG_LENGTH,
+          vp8lf_loop_filter_inter(&planes, &key_lists, &s, 0, 6, &done));
+    check("the count and next start of refused calls", 2 * 99, (long long)(done.count + done.next));
+    check("references that are NULL in the key frame call", VP8LF_OK,
+          vp8lf_loop_filter(&planes, &key_lists, &s, 0, 6, &done));
+    check("its count and next start", 2 * 6, (long long)(done.count + done.next));
+}
+
 static void structs(void)
 {
     refusal_texts();
     for (unsigned bits = 0; bits < 32; bits++) {
         levels_of_structs(bits);
-        key_pass_of_structs(bits);
-        inter_pass_of_structs(bits);
+        for (unsigned i = 0; i < 4; i++) {
+            key_pass_of_structs(bits, i % 2 * 30, i / 2 == 1);
+            inter_pass_of_structs(bits, i % 2 * 30, i / 2 == 1);
+        }
         searches_of_structs(bits);
         full_searches_of_structs(bits, false);
         full_searches_of_structs(bits, true);
@@ -895,6 +1026,126 @@ static void structs(void)
     short_planes_of_structs();
     rows_of_structs();
     null_in_structs();
+}
+
+/* Sharpness 2 at a header level. Where segments or deltas count, they lift every macroblock above 0. */
+static struct vp8lf_settings lifting(unsigned bits, uint8_t level)
+{
+    struct vp8lf_settings s = settings_of(bits);
+    s.loop_filter_level = level;
+    s.sharpness_level = 2;
+    for (int i = 0; i < 4; i++)
+        s.segment_level[i] += 20;
+    s.ref_delta_current = 21;
+    s.ref_delta_last = 24;
+    s.ref_delta_golden = 26;
+    s.ref_delta_altref = 29;
+    s.other_mv_mode_delta = 11;
+    return s;
+}
+
+static bool lifts(const struct vp8lf_settings *s)
+{
+    return s->segmentation_enabled || s->delta_enabled;
+}
+#define FIELDS(s)                                                                                                    \
+    (s)->simple, (s)->key_frame, (s)->loop_filter_level, (s)->sharpness_level, (s)->segmentation_enabled,            \
+        (s)->segment_abs, (s)->segment_level[0], (s)->segment_level[1], (s)->segment_level[2],                       \
+        (s)->segment_level[3], (s)->delta_enabled, (s)->ref_delta_current, (s)->bpred_mode_delta,                    \
+        (s)->ref_delta_last, (s)->ref_delta_golden, (s)->ref_delta_altref, (s)->zero_mv_mode_delta,                  \
+        (s)->other_mv_mode_delta, (s)->split_mv_mode_delta
+
+/* The frame call of a frame, or its pass. */
+static long long filter_frame(bool frame_call, bool inter, struct frame *f, const struct vp8lf_settings *s,
+                              size_t start, size_t allowance)
+{
+    count_out = next_out = 99;
+    if (inter)
+        return (frame_call ? vp8lf_loop_filter_inter_frame : vp8lf_filter_inter_frame)(
+            FRAME(*f), 3, 2, 50, 27, FIVE(*f), FIELDS(s), start, allowance, &count_out, &next_out);
+    return (frame_call ? vp8lf_loop_filter_frame : vp8lf_filter_frame)(
+        FRAME(*f), 3, 2, 50, 27, THREE(*f), FIELDS(s), start, allowance, &count_out, &next_out);
+}
+
+/* The pass on one frame and the frame call on another: the same answer, count and next start. */
+static void both_calls(bool inter, const struct vp8lf_settings *s, struct frame *passed, struct frame *came,
+                       size_t start, size_t allowance)
+{
+    size_t left = start > 6 ? 0 : 6 - start, due = left < allowance ? left : allowance;
+    long long answer = filter_frame(false, inter, passed, s, start, allowance);
+    size_t count = count_out, next = next_out;
+    check("the pass beside a frame call", start > 6 ? VP8LF_START_TOO_LARGE : VP8LF_OK, answer);
+    check("its count", start > 6 ? 99 : (long long)due, (long long)count);
+    check("the frame call beside a pass", answer, filter_frame(true, inter, came, s, start, allowance));
+    check("its count", (long long)count, (long long)count_out);
+    check("its next start", (long long)next, (long long)next_out);
+}
+
+/* Whether every macroblock has a level above 0, or none has. */
+static void levels_of_frame(bool inter, const struct frame *f, const struct vp8lf_settings *s)
+{
+    for (size_t i = 0; i < 6; i++) {
+        uint8_t level = 99;
+        check("a macroblock", VP8LF_OK,
+              inter ? vp8lf_level_inter(s, f->segments[i], f->references[i], f->inter_modes[i], f->modes[i], &level)
+                    : vp8lf_level(s, f->segments[i], f->modes[i], &level));
+        check("whether it is lifted", lifts(s), level > 0);
+    }
+}
+
+/* Header level 0, so many macroblocks a call: the pass changes what is lifted, the frame call nothing. */
+static void skipped(bool inter, unsigned bits, size_t allowance)
+{
+    const struct vp8lf_settings s = lifting(bits, 0);
+    const struct frame before = uneven();
+    struct frame passed = before, came = before;
+    levels_of_frame(inter, &before, &s);
+    for (size_t start = 0; start < 6; start += allowance) {
+        both_calls(inter, &s, &passed, &came, start, allowance);
+        same_frame("a frame of header level 0", &before, &came);
+        both_calls(inter, &s, &passed, &came, start, 0);
+    }
+    both_calls(inter, &s, &passed, &came, 6, allowance);
+    both_calls(inter, &s, &passed, &came, 7, allowance);
+    same_frame("a frame of header level 0 at the end", &before, &came);
+    check("whether the pass changes y", lifts(&s), memcmp(before.y, passed.y, sizeof before.y) != 0);
+    check("whether it changes u", lifts(&s) && !s.simple, memcmp(before.u, passed.u, sizeof before.u) != 0);
+    check("whether it changes v", lifts(&s) && !s.simple, memcmp(before.v, passed.v, sizeof before.v) != 0);
+}
+
+/* Another header level: after each call the frame is as the pass leaves it. */
+static void filtered_alike(bool inter, unsigned bits, uint8_t level, size_t allowance)
+{
+    struct vp8lf_settings s = lifting(bits, level);
+    const struct frame before = uneven();
+    struct frame passed = before, came = before;
+    s.sharpness_level = level % 3;
+    for (size_t start = 0; start < 6; start += allowance) {
+        both_calls(inter, &s, &passed, &came, start, allowance);
+        same_frame("what a frame call leaves", &passed, &came);
+        both_calls(inter, &s, &passed, &came, start, 0);
+    }
+    both_calls(inter, &s, &passed, &came, 6, allowance);
+    both_calls(inter, &s, &passed, &came, 7, allowance);
+    same_frame("what frame calls leave at the end", &passed, &came);
+    if (lifts(&s) || level > 40)
+        check("the pass changes y", true, memcmp(before.y, passed.y, sizeof before.y) != 0);
+}
+
+/* All marks at header level 0; and every other level, with absolute segments, with deltas, and with neither. */
+static void frame_calls(void)
+{
+    static const unsigned marks[3] = {0, 12, 16};
+    refused_frame_calls();
+    null_frame_calls(0);
+    null_frame_calls(63);
+    null_in_frame_calls(0);
+    null_in_frame_calls(30);
+    for (unsigned i = 0; i < 2 * 32 * 7; i++)
+        skipped(i % 2 == 1, i / 2 % 32, 1 + i / 64);
+    for (unsigned level = 1; level < 256; level++)
+        for (unsigned i = 0; i < 2 * 3; i++)
+            filtered_alike(i % 2 == 1, marks[i / 2] + level % 4, (uint8_t)level, 1 + level % 7);
 }
 
 int main(void)
@@ -935,6 +1186,7 @@ int main(void)
     null_sums_and_searches();
     null_full_searches();
     structs();
+    frame_calls();
     if (failures > 0) {
         printf("header: %d of %d checks failed\n", failures, checks);
         return 1;

@@ -1,4 +1,4 @@
-/* The passes with their arguments in records, for the programs that replay recordings. */
+/* The passes and the frame calls with their arguments in records, for the programs that replay recordings. */
 #ifndef PASSES_H
 #define PASSES_H
 
@@ -33,11 +33,15 @@ struct frame {
 #define KEY_LISTS(f) (f)->lists[0], (f)->listed, (f)->lists[1], (f)->listed, (f)->lists[2], (f)->listed
 #define INTER_LISTS(f) KEY_LISTS(f), (f)->lists[3], (f)->listed, (f)->lists[4], (f)->listed
 
-static uint8_t run_pass(bool inter, const struct frame *f, size_t start, size_t allowance, size_t *count, size_t *next)
+/* The pass of a frame, or its frame call. */
+static uint8_t run_pass(bool frame_call, bool inter, const struct frame *f, size_t start, size_t allowance,
+                        size_t *count, size_t *next)
 {
     if (inter)
-        return vp8lf_filter_inter_frame(PLANES(f), INTER_LISTS(f), SETTINGS(f->settings), start, allowance, count, next);
-    return vp8lf_filter_frame(PLANES(f), KEY_LISTS(f), SETTINGS(f->settings), start, allowance, count, next);
+        return (frame_call ? vp8lf_loop_filter_inter_frame : vp8lf_filter_inter_frame)(
+            PLANES(f), INTER_LISTS(f), SETTINGS(f->settings), start, allowance, count, next);
+    return (frame_call ? vp8lf_loop_filter_frame : vp8lf_filter_frame)(
+        PLANES(f), KEY_LISTS(f), SETTINGS(f->settings), start, allowance, count, next);
 }
 
 #endif

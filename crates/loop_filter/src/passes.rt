@@ -9,6 +9,7 @@ ghost use Rattle.calls.specs.Answers.{passOutcome};
 ghost use Rattle.calls.specs.FinalRows.{finalRows};
 ghost use Rattle.calls.specs.Pass.{keyPass, interPass};
 ghost use Rattle.calls.specs.PassCalls.{keyCall, interCall, keyLists, interLists};
+ghost use Rattle.frame_calls.specs.Skip.{keyFrame, interFrame, frameCall};
 ghost use Rattle.loop_filter.specs.Returned.{ProgressReturned, PassReturned, RowsReturned};
 ghost use Rattle.loop_filter.specs.Settings.{settingsOf, layoutOf};
 
@@ -192,6 +193,188 @@ pub extern "C" fn vp8lf_filter_inter_frame(
         uv_stride: uv_stride,
     };
     let answer = frame::pass::filter_inter_frame(
+        y,
+        u,
+        v,
+        layout,
+        modes,
+        segments,
+        flags,
+        references,
+        inter_modes,
+        config,
+        start,
+        allowance,
+    );
+    put_progress(answer, count, next)
+}
+
+// The key pass, turned off by header level 0: the planes stay, and the macroblocks count as done. A refusal leaves `count` and `next` alone.
+#[no_mangle]
+pub extern "C" fn vp8lf_loop_filter_frame(
+    y: &mut [u8],
+    u: &mut [u8],
+    v: &mut [u8],
+    mb_cols: usize,
+    mb_rows: usize,
+    y_stride: usize,
+    uv_stride: usize,
+    modes: &[u8],
+    segments: &[u8],
+    flags: &[u8],
+    simple: bool,
+    key_frame: bool,
+    loop_filter_level: u8,
+    sharpness_level: u8,
+    segmentation_enabled: bool,
+    segment_abs: bool,
+    segment_level_0: i16,
+    segment_level_1: i16,
+    segment_level_2: i16,
+    segment_level_3: i16,
+    delta_enabled: bool,
+    ref_delta_current: i16,
+    bpred_mode_delta: i16,
+    ref_delta_last: i16,
+    ref_delta_golden: i16,
+    ref_delta_altref: i16,
+    zero_mv_mode_delta: i16,
+    other_mv_mode_delta: i16,
+    split_mv_mode_delta: i16,
+    start: usize,
+    allowance: usize,
+    count: &mut usize,
+    next: &mut usize,
+) -> u8
+    ensures { λ r. ⌜ PassReturned keyFrame
+        (frameCall keyPass (keyCall (planesOf (now (y .entry)) (now (u .entry)) (now (v .entry))) (layoutOf «mb_cols» «mb_rows» «y_stride» «uv_stride»)
+        (keyLists (now (modes .entry)) (now (segments .entry)) (now (flags .entry)))
+        (settingsOf simple «key_frame» «loop_filter_level» «sharpness_level» «segmentation_enabled» «segment_abs»
+        «segment_level_0» «segment_level_1» «segment_level_2» «segment_level_3» «delta_enabled» «ref_delta_current» «bpred_mode_delta»
+        «ref_delta_last» «ref_delta_golden» «ref_delta_altref» «zero_mv_mode_delta» «other_mv_mode_delta» «split_mv_mode_delta»)
+        start allowance))
+        r (planesOf (now (y .exit)) (now (u .exit)) (now (v .exit)))
+        (now (count .entry)) (now (next .entry)) (now (count .exit)) (now (next .exit)) ⌝ }
+{
+    let config = settings(
+        simple,
+        key_frame,
+        loop_filter_level,
+        sharpness_level,
+        segmentation_enabled,
+        segment_abs,
+        segment_level_0,
+        segment_level_1,
+        segment_level_2,
+        segment_level_3,
+        delta_enabled,
+        ref_delta_current,
+        bpred_mode_delta,
+        ref_delta_last,
+        ref_delta_golden,
+        ref_delta_altref,
+        zero_mv_mode_delta,
+        other_mv_mode_delta,
+        split_mv_mode_delta,
+    );
+    let layout = PlaneLayout {
+        mb_cols: mb_cols,
+        mb_rows: mb_rows,
+        y_stride: y_stride,
+        uv_stride: uv_stride,
+    };
+    let answer = frame_calls::frame_call::loop_filter_frame(
+        y,
+        u,
+        v,
+        layout,
+        modes,
+        segments,
+        flags,
+        config,
+        start,
+        allowance,
+    );
+    put_progress(answer, count, next)
+}
+
+// The inter pass, turned off by header level 0: the planes stay, and the macroblocks count as done. A refusal leaves `count` and `next` alone.
+#[no_mangle]
+pub extern "C" fn vp8lf_loop_filter_inter_frame(
+    y: &mut [u8],
+    u: &mut [u8],
+    v: &mut [u8],
+    mb_cols: usize,
+    mb_rows: usize,
+    y_stride: usize,
+    uv_stride: usize,
+    modes: &[u8],
+    segments: &[u8],
+    flags: &[u8],
+    references: &[u8],
+    inter_modes: &[u8],
+    simple: bool,
+    key_frame: bool,
+    loop_filter_level: u8,
+    sharpness_level: u8,
+    segmentation_enabled: bool,
+    segment_abs: bool,
+    segment_level_0: i16,
+    segment_level_1: i16,
+    segment_level_2: i16,
+    segment_level_3: i16,
+    delta_enabled: bool,
+    ref_delta_current: i16,
+    bpred_mode_delta: i16,
+    ref_delta_last: i16,
+    ref_delta_golden: i16,
+    ref_delta_altref: i16,
+    zero_mv_mode_delta: i16,
+    other_mv_mode_delta: i16,
+    split_mv_mode_delta: i16,
+    start: usize,
+    allowance: usize,
+    count: &mut usize,
+    next: &mut usize,
+) -> u8
+    ensures { λ r. ⌜ PassReturned interFrame
+        (frameCall interPass (interCall (planesOf (now (y .entry)) (now (u .entry)) (now (v .entry))) (layoutOf «mb_cols» «mb_rows» «y_stride» «uv_stride»)
+        (interLists (now (modes .entry)) (now (segments .entry)) (now (flags .entry)) (now (references .entry)) (now («inter_modes» .entry)))
+        (settingsOf simple «key_frame» «loop_filter_level» «sharpness_level» «segmentation_enabled» «segment_abs»
+        «segment_level_0» «segment_level_1» «segment_level_2» «segment_level_3» «delta_enabled» «ref_delta_current» «bpred_mode_delta»
+        «ref_delta_last» «ref_delta_golden» «ref_delta_altref» «zero_mv_mode_delta» «other_mv_mode_delta» «split_mv_mode_delta»)
+        start allowance))
+        r (planesOf (now (y .exit)) (now (u .exit)) (now (v .exit)))
+        (now (count .entry)) (now (next .entry)) (now (count .exit)) (now (next .exit)) ⌝ }
+{
+    let config = settings(
+        simple,
+        key_frame,
+        loop_filter_level,
+        sharpness_level,
+        segmentation_enabled,
+        segment_abs,
+        segment_level_0,
+        segment_level_1,
+        segment_level_2,
+        segment_level_3,
+        delta_enabled,
+        ref_delta_current,
+        bpred_mode_delta,
+        ref_delta_last,
+        ref_delta_golden,
+        ref_delta_altref,
+        zero_mv_mode_delta,
+        other_mv_mode_delta,
+        split_mv_mode_delta,
+    );
+    let layout = PlaneLayout {
+        mb_cols: mb_cols,
+        mb_rows: mb_rows,
+        y_stride: y_stride,
+        uv_stride: uv_stride,
+    };
+    let answer = frame_calls::frame_call::loop_filter_inter_frame(
         y,
         u,
         v,

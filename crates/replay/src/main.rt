@@ -1,4 +1,4 @@
-// Replays recorded calls of the functions that the Rust has too, but for sums and searches, from standard input, and marks each that is answered as it was recorded.
+// Replays recorded calls of the functions that the Rust has too, but for sums and searches, and of the frame calls, from standard input, and marks each that is answered as it was recorded.
 mod film;
 mod passes;
 mod records;
@@ -29,6 +29,8 @@ use calls::answers::PassAnswer;
 use calls::records::MacroblockModes;
 use frame::record_pass::filter_frame_records;
 use frame::record_pass::filter_inter_frame_records;
+use frame_calls::record_frame_call::loop_filter_frame_records;
+use frame_calls::record_frame_call::loop_filter_inter_frame_records;
 use levels::config::FrameFilterConfig;
 use planes::layout::PlaneLayout;
 use recording::input::Place;
@@ -46,8 +48,9 @@ ghost use Rattle.calls.specs.Answers.{Passed};
 ghost use Rattle.planes.specs.Layout.{planesOf};
 ghost use Rattle.calls.specs.Pass.{keyPass, interPass};
 ghost use Rattle.calls.specs.PassCalls.{keyRecordsCall, interRecordsCall};
+ghost use Rattle.frame_calls.specs.Skip.{keyFrame, interFrame, frameCall};
 
-// The passes over records take a lent slice of them. A caller that lends one is proved by hand, so there are two such callers only.
+// Passes and frame calls over records take a lent slice of them. A caller that lends one is proved by hand, so there is one such caller of each only.
 pub fn key_four(
     y: &mut [u8],
     u: &mut [u8],
@@ -82,8 +85,65 @@ pub fn inter_four(
     filter_inter_frame_records(y, u, v, layout, &list, config, start, allowance)
 }
 
+pub fn key_frame_four(
+    y: &mut [u8],
+    u: &mut [u8],
+    v: &mut [u8],
+    layout: PlaneLayout,
+    list: [MacroblockModes; 4],
+    config: FrameFilterConfig,
+    start: usize,
+    allowance: usize,
+) -> PassAnswer
+    ensures { λ r. ⌜ Passed keyFrame
+        (frameCall keyPass (keyRecordsCall (planesOf (now (y .entry)) (now (u .entry)) (now (v .entry))) layout list config start allowance))
+        r (planesOf (now (y .exit)) (now (u .exit)) (now (v .exit))) ⌝ }
+{
+    loop_filter_frame_records(y, u, v, layout, &list, config, start, allowance)
+}
+
+pub fn inter_frame_four(
+    y: &mut [u8],
+    u: &mut [u8],
+    v: &mut [u8],
+    layout: PlaneLayout,
+    list: [MacroblockModes; 4],
+    config: FrameFilterConfig,
+    start: usize,
+    allowance: usize,
+) -> PassAnswer
+    ensures { λ r. ⌜ Passed interFrame
+        (frameCall interPass (interRecordsCall (planesOf (now (y .entry)) (now (u .entry)) (now (v .entry))) layout list config start allowance))
+        r (planesOf (now (y .exit)) (now (u .exit)) (now (v .exit))) ⌝ }
+{
+    loop_filter_inter_frame_records(y, u, v, layout, &list, config, start, allowance)
+}
+
+fn four(
+    of_key: bool,
+    frame: bool,
+    y: &mut [u8; 1280],
+    u: &mut [u8; 352],
+    v: &mut [u8; 348],
+    p: Place,
+    config: FrameFilterConfig,
+    list: [MacroblockModes; 4],
+) -> PassAnswer {
+    if of_key & frame {
+        return key_frame_four(y, u, v, p.layout, list, config, p.start, p.allowance);
+    }
+    if of_key {
+        return key_four(y, u, v, p.layout, list, config, p.start, p.allowance);
+    }
+    if frame {
+        return inter_frame_four(y, u, v, p.layout, list, config, p.start, p.allowance);
+    }
+    inter_four(y, u, v, p.layout, list, config, p.start, p.allowance)
+}
+
 fn over_records(
     of_key: bool,
+    frame: bool,
     before: Picture,
     p: Place,
     config: FrameFilterConfig,
@@ -92,34 +152,12 @@ fn over_records(
     let mut y = before.y;
     let mut u = before.u;
     let mut v = before.v;
-    let answer = if of_key {
-        key_four(
-            &mut y,
-            &mut u,
-            &mut v,
-            p.layout,
-            list,
-            config,
-            p.start,
-            p.allowance,
-        )
-    } else {
-        inter_four(
-            &mut y,
-            &mut u,
-            &mut v,
-            p.layout,
-            list,
-            config,
-            p.start,
-            p.allowance,
-        )
-    };
+    let answer = four(of_key, frame, &mut y, &mut u, &mut v, p, config, list);
     make_left(answer, y, u, v, before.whole)
 }
 
 // Place, settings, records, the answer, the picture before and after.
-fn replay_records(of_key: bool) -> bool {
+fn replay_records(of_key: bool, frame: bool) -> bool {
     let p = read_place();
     let s = read_settings();
     let l = read_records();
@@ -127,18 +165,18 @@ fn replay_records(of_key: bool) -> bool {
     let before = read_picture();
     let after = read_picture();
     let list = l.list;
-    let left = over_records(of_key, before, p, s.config, list);
+    let left = over_records(of_key, frame, before, p, s.config, list);
     p.whole & s.whole & l.whole & is_left(left, after, r)
 }
 
 // The same without pictures: nothing may change.
-fn replay_idle_records(of_key: bool) -> bool {
+fn replay_idle_records(of_key: bool, frame: bool) -> bool {
     let p = read_place();
     let s = read_settings();
     let l = read_records();
     let r = read_recorded();
     let list = l.list;
-    let left = over_records(of_key, stripes(), p, s.config, list);
+    let left = over_records(of_key, frame, stripes(), p, s.config, list);
     p.whole & s.whole & l.whole & is_left(left, stripes(), r)
 }
 
@@ -157,20 +195,30 @@ fn replay(kind: u8) -> bool {
         9 => replay_inter_level(),
         10 => replay_coefficients(),
         11 => replay_final_rows(),
-        12 => replay_pass(true),
-        13 => replay_pass(false),
-        14 => replay_idle(true),
-        15 => replay_idle(false),
-        16 => replay_halted(true),
-        17 => replay_halted(false),
-        18 => replay_records(true),
-        19 => replay_records(false),
-        20 => replay_idle_records(true),
-        21 => replay_idle_records(false),
+        12 => replay_pass(true, false),
+        13 => replay_pass(false, false),
+        14 => replay_idle(true, false),
+        15 => replay_idle(false, false),
+        16 => replay_halted(true, false),
+        17 => replay_halted(false, false),
+        18 => replay_records(true, false),
+        19 => replay_records(false, false),
+        20 => replay_idle_records(true, false),
+        21 => replay_idle_records(false, false),
         22 => replay_film64(true),
         23 => replay_film64(false),
         24 => replay_film16(true),
         25 => replay_film16(false),
+        26 => replay_pass(true, true),
+        27 => replay_pass(false, true),
+        28 => replay_idle(true, true),
+        29 => replay_idle(false, true),
+        30 => replay_halted(true, true),
+        31 => replay_halted(false, true),
+        32 => replay_records(true, true),
+        33 => replay_records(false, true),
+        34 => replay_idle_records(true, true),
+        35 => replay_idle_records(false, true),
         _ => false,
     }
 }
@@ -221,8 +269,22 @@ fn pass_sections() {
     section(b"filter_inter_frame, film 16x16", 25);
 }
 
+fn frame_sections() {
+    section(b"loop_filter_frame", 26);
+    section(b"loop_filter_inter_frame", 27);
+    section(b"loop_filter_frame, nothing changes", 28);
+    section(b"loop_filter_inter_frame, nothing changes", 29);
+    section(b"loop_filter_frame, halted and resumed", 30);
+    section(b"loop_filter_inter_frame, halted and resumed", 31);
+    section(b"loop_filter_frame_records", 32);
+    section(b"loop_filter_inter_frame_records", 33);
+    section(b"loop_filter_frame_records, nothing changes", 34);
+    section(b"loop_filter_inter_frame_records, nothing changes", 35);
+}
+
 fn main() {
     small_sections();
     pass_sections();
+    frame_sections();
     end_recording();
 }

@@ -3,6 +3,8 @@ use calls::answers::PassAnswer;
 use calls::answers::pass_refusal_number;
 use frame::pass::filter_frame;
 use frame::pass::filter_inter_frame;
+use frame_calls::frame_call::loop_filter_frame;
+use frame_calls::frame_call::loop_filter_inter_frame;
 use levels::config::FrameFilterConfig;
 use recording::input::Place;
 use recording::input::Recorded;
@@ -51,30 +53,69 @@ pub fn make_left(
     }
 }
 
-fn key(before: Picture, p: Place, config: FrameFilterConfig, l: Lists) -> Left {
+// By arrays, whose lengths need no proof.
+fn filter_key(
+    frame: bool,
+    y: &mut [u8; 1280],
+    u: &mut [u8; 352],
+    v: &mut [u8; 348],
+    p: Place,
+    config: FrameFilterConfig,
+    modes: &[u8; 4],
+    segments: &[u8; 4],
+    flags: &[u8; 4],
+) -> PassAnswer {
+    if frame {
+        return loop_filter_frame(
+            y,
+            u,
+            v,
+            p.layout,
+            modes,
+            segments,
+            flags,
+            config,
+            p.start,
+            p.allowance,
+        );
+    }
+    filter_frame(
+        y,
+        u,
+        v,
+        p.layout,
+        modes,
+        segments,
+        flags,
+        config,
+        p.start,
+        p.allowance,
+    )
+}
+
+fn key(frame: bool, before: Picture, p: Place, config: FrameFilterConfig, l: Lists) -> Left {
     let mut y = before.y;
     let mut u = before.u;
     let mut v = before.v;
     let modes = l.modes;
     let segments = l.segments;
     let flags = l.flags;
-    let answer = filter_frame(
+    let answer = filter_key(
+        frame,
         &mut y,
         &mut u,
         &mut v,
-        p.layout,
+        p,
+        config,
         &modes,
         &segments,
         &flags,
-        config,
-        p.start,
-        p.allowance,
     );
     make_left(answer, y, u, v, before.whole)
 }
 
-// By arrays, whose lengths need no proof.
 fn filter_inter(
+    frame: bool,
     y: &mut [u8; 1280],
     u: &mut [u8; 352],
     v: &mut [u8; 348],
@@ -86,6 +127,22 @@ fn filter_inter(
     references: &[u8; 4],
     inter_modes: &[u8; 4],
 ) -> PassAnswer {
+    if frame {
+        return loop_filter_inter_frame(
+            y,
+            u,
+            v,
+            p.layout,
+            modes,
+            segments,
+            flags,
+            references,
+            inter_modes,
+            config,
+            p.start,
+            p.allowance,
+        );
+    }
     filter_inter_frame(
         y,
         u,
@@ -102,7 +159,7 @@ fn filter_inter(
     )
 }
 
-fn inter(before: Picture, p: Place, config: FrameFilterConfig, l: Lists) -> Left {
+fn inter(frame: bool, before: Picture, p: Place, config: FrameFilterConfig, l: Lists) -> Left {
     let mut y = before.y;
     let mut u = before.u;
     let mut v = before.v;
@@ -112,6 +169,7 @@ fn inter(before: Picture, p: Place, config: FrameFilterConfig, l: Lists) -> Left
     let references = l.references;
     let inter_modes = l.inter_modes;
     let answer = filter_inter(
+        frame,
         &mut y,
         &mut u,
         &mut v,
@@ -126,11 +184,19 @@ fn inter(before: Picture, p: Place, config: FrameFilterConfig, l: Lists) -> Left
     make_left(answer, y, u, v, before.whole)
 }
 
-fn pass(of_key: bool, before: Picture, p: Place, config: FrameFilterConfig, l: Lists) -> Left {
+// A pass, or the frame call beside it.
+fn pass(
+    of_key: bool,
+    frame: bool,
+    before: Picture,
+    p: Place,
+    config: FrameFilterConfig,
+    l: Lists,
+) -> Left {
     if of_key {
-        key(before, p, config, l)
+        key(frame, before, p, config, l)
     } else {
-        inter(before, p, config, l)
+        inter(frame, before, p, config, l)
     }
 }
 
@@ -141,29 +207,29 @@ pub fn is_left(left: Left, after: Picture, r: Recorded) -> bool {
 }
 
 // Place, settings, lists, the answer, the picture before and after.
-pub fn replay_pass(of_key: bool) -> bool {
+pub fn replay_pass(of_key: bool, frame: bool) -> bool {
     let p = read_place();
     let s = read_settings();
     let l = read_lists();
     let r = read_recorded();
     let before = read_picture();
     let after = read_picture();
-    let left = pass(of_key, before, p, s.config, l);
+    let left = pass(of_key, frame, before, p, s.config, l);
     p.whole & s.whole & l.whole & is_left(left, after, r)
 }
 
 // The same without pictures: nothing may change.
-pub fn replay_idle(of_key: bool) -> bool {
+pub fn replay_idle(of_key: bool, frame: bool) -> bool {
     let p = read_place();
     let s = read_settings();
     let l = read_lists();
     let r = read_recorded();
-    let left = pass(of_key, stripes(), p, s.config, l);
+    let left = pass(of_key, frame, stripes(), p, s.config, l);
     p.whole & s.whole & l.whole & is_left(left, stripes(), r)
 }
 
 // A halted call and the one that goes on where it ended, to the end of the grid.
-pub fn replay_halted(of_key: bool) -> bool {
+pub fn replay_halted(of_key: bool, frame: bool) -> bool {
     let p = read_place();
     let s = read_settings();
     let l = read_lists();
@@ -172,7 +238,7 @@ pub fn replay_halted(of_key: bool) -> bool {
     let middle = read_picture();
     let r2 = read_recorded();
     let after = read_picture();
-    let first = pass(of_key, before, p, s.config, l);
+    let first = pass(of_key, frame, before, p, s.config, l);
     let halted = first.picture;
     let layout = p.layout;
     let rest = Place {
@@ -181,7 +247,7 @@ pub fn replay_halted(of_key: bool) -> bool {
         allowance: 18446744073709551615,
         whole: p.whole,
     };
-    let second = pass(of_key, halted, rest, s.config, l);
+    let second = pass(of_key, frame, halted, rest, s.config, l);
     let whole = p.whole & s.whole & l.whole;
     mark(whole & is_left(first, middle, r1));
     whole & is_left(second, after, r2)

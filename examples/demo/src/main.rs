@@ -68,7 +68,12 @@ fn show(film: &[Stream], directory: &Path, long: bool) -> Result<(), String> {
     refusals(shown[0].frame)?;
     write_pictures(&shown, directory)?;
     let equal = shown.iter().filter(|shown| shown.outcome.equal).count();
-    line(format!("\n{equal} of {} frames are equal to the recorded result", shown.len()))?;
+    let left = shown.iter().filter(|shown| shown.frame.left_alone()).count();
+    line(format!(
+        "\n{left} of {} frames have header level 0: their recorded result is the frame as it was",
+        shown.len()
+    ))?;
+    line(format!("{equal} of {} frames are equal to the recorded result", shown.len()))?;
     if equal < shown.len() { Err(String::from("the filter and the film differ")) } else { Ok(()) }
 }
 
@@ -87,7 +92,11 @@ fn filter(film: &[Stream], long: bool) -> Result<Vec<Shown<'_>>, String> {
 }
 
 fn print_table(shown: &[Shown<'_>]) -> Result<(), String> {
-    line("The recorded planes of each frame are filtered and sent, one row of macroblocks a call.\n")?;
+    line("The recorded planes of each frame are filtered and sent, one row of macroblocks a call.")?;
+    line(
+        "The calls are loop_filter_frame_from and loop_filter_inter_frame_from: as in a decoder, header level 0 turns",
+    )?;
+    line("the filter off. 'left' marks such a frame, which must come out as it came.\n")?;
     let wide = shown.iter().map(|shown| shown.stream.len()).max().unwrap_or(0);
     line(format!(
         "{:wide$}  frame  kind          macroblocks     samples changed  equal  luma rows final after each call",
@@ -100,7 +109,11 @@ fn print_table(shown: &[Shown<'_>]) -> Result<(), String> {
             "{stream:wide$}  {:5}  {:12}  {macroblocks:>11}  {samples:>18}  {:5}  {}",
             frame.place(),
             kind(frame),
-            if outcome.equal { "yes" } else { "NO" },
+            match (outcome.equal, frame.left_alone()) {
+                (true, true) => "left",
+                (true, false) => "yes",
+                (false, _) => "NO",
+            },
             finals(outcome)
         ))?;
     }
@@ -153,7 +166,7 @@ fn write_pictures(shown: &[Shown<'_>], directory: &Path) -> Result<(), String> {
     std::fs::create_dir_all(directory).map_err(|error| failed(directory, error))?;
     line(format!("\nPictures in {}, of the frame of each kind of which most samples changed:", directory.display()))?;
     for pick in ["key normal", "inter normal", "key simple", "inter simple"] {
-        let of_kind = shown.iter().filter(|shown| kind(shown.frame) == pick);
+        let of_kind = shown.iter().filter(|shown| kind(shown.frame) == pick && shown.outcome.changed > 0);
         let Some(Shown { stream, frame, outcome }) = of_kind.max_by_key(|shown| shown.outcome.changed) else {
             continue;
         };

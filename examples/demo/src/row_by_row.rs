@@ -4,7 +4,7 @@
 use film::Frame;
 use vp8_loop_filter::{
     FinalRows, FrameFilterConfig, InterMode, IntraYMode, KeyframePlanes, MacroblockModes, RefFrame, Refusal,
-    filter_frame_from, filter_inter_frame_from, final_rows,
+    final_rows, loop_filter_frame_from, loop_filter_inter_frame_from,
 };
 
 /// What came of a frame.
@@ -15,7 +15,7 @@ pub struct Outcome {
     pub finals: Vec<FinalRows>,
     /// The samples that the filter changed.
     pub changed: usize,
-    /// Whether what was sent is the recorded result.
+    /// Whether what was sent is the recorded result, or the frame as it came where the decoder left it so.
     pub equal: bool,
 }
 
@@ -86,11 +86,14 @@ pub fn row_by_row(frame: &Frame) -> Result<Outcome, String> {
     }
     let samples = outcome.sent.iter().flatten().zip(frame.planes.iter().flatten());
     outcome.changed = samples.filter(|(after, before)| after != before).count();
-    outcome.equal = film::checksum(&outcome.sent) == frame.after;
+    outcome.equal = match frame.left_alone() {
+        true => outcome.sent == frame.planes,
+        false => film::checksum(&outcome.sent) == frame.after,
+    };
     Ok(outcome)
 }
 
-/// Filters from a start, and answers the next one.
+/// Filters from a start by the frame call, which header level 0 turns off, and answers the next start.
 pub fn filter_some(
     arrived: &mut Arrived,
     config: &FrameFilterConfig,
@@ -99,9 +102,9 @@ pub fn filter_some(
 ) -> Result<usize, Refusal> {
     let Arrived { planes, modes, has_coeffs, ref_frames, inter_modes } = arrived;
     let done = if config.key_frame {
-        filter_frame_from(planes, modes, has_coeffs, config, start, allowance)?
+        loop_filter_frame_from(planes, modes, has_coeffs, config, start, allowance)?
     } else {
-        filter_inter_frame_from(planes, modes, has_coeffs, ref_frames, inter_modes, config, start, allowance)?
+        loop_filter_inter_frame_from(planes, modes, has_coeffs, ref_frames, inter_modes, config, start, allowance)?
     };
     Ok(done.next)
 }

@@ -20,6 +20,9 @@ fn the_film_is_equal() {
     assert!(output.status.success(), "{text}");
     let frames = film::kept().iter().map(|stream| stream.frames.len()).sum::<usize>() + film::bench().len();
     assert!(text.ends_with(&format!("\n{frames} of {frames} frames are equal to the recorded result\n")), "{text}");
+    let left = film::kept().iter().flat_map(|stream| &stream.frames).filter(|frame| frame.left_alone()).count();
+    assert!(left > 0 && text.contains(&format!("\n{left} of {frames} frames have header level 0")), "{text}");
+    assert!(text.contains("loop_filter_frame_from"), "{text}");
     assert!(!text.contains("decoded"), "{text}");
 }
 

@@ -3,7 +3,7 @@
 
 use film::Frame;
 use std::time::{Duration, Instant};
-use vp8_loop_filter::entries::{self as lent, ByteLists};
+use vp8_loop_filter::entries::{self as lent, ByteLists, Form};
 use vp8_loop_filter::{
     FrameFilterConfig, FramePass, InterFilterInfo, InterMode, IntraYMode, KeyframePlanes, MacroblockModes, PlanesMut,
     RefFrame, Refusal, filter_frame_flags, filter_frame_from, filter_inter_frame_flags, filter_inter_frame_from,
@@ -136,7 +136,8 @@ impl Picture {
         let (mut count, mut next) = (0, 0);
         while next < n {
             let (start, columns) = (next, planes.mb_cols);
-            let number = lent::filter(&mut planes, &lists, &self.config, start, columns, &mut count, &mut next);
+            let number =
+                lent::filter(Form::Pass, &mut planes, &lists, &self.config, start, columns, &mut count, &mut next);
             assert_eq!(number, 0);
             final_rows(&planes, next)?;
         }

@@ -1,13 +1,14 @@
 //! Times both passes, the search and the full search of the library against the Rust's on the recorded frames for timing,
 //! in one run and in turn, and prints each smallest time of the library as a part of the Rust's smallest time; then how
-//! the time of a pass grows with the grid, and what halting costs a caller of the Rust crate.
+//! the time of a pass grows with the grid, what halting costs a caller of the Rust crate, and what the frame calls take.
 //!
 //! The level is forced: every macroblock has it, whatever its segment, reference and mode. "Rows" halts after each row
 //! of macroblocks.
 //!
 //! `--noise AMPLITUDE` adds uniform noise to the frames first. `--libvpx` times the passes against libvpx's SSE2 filters
-//! instead; `--halting` and `--full-search` time these alone.
+//! instead; `--halting`, `--full-search` and `--frame-calls` time these alone.
 
+mod frame_calls;
 mod growth;
 mod halting;
 mod libvpx;
@@ -38,6 +39,7 @@ fn main() -> ExitCode {
         Part::Libvpx => libvpx::compare(&frames, repetitions),
         Part::Halting => halting::compare(&frames, repetitions),
         Part::FullSearch => searches(&frames, |frame, simple| search::compare_full(frame, simple, repetitions)),
+        Part::FrameCalls => frame_calls::compare(&frames, repetitions),
     }
     ExitCode::SUCCESS
 }
@@ -48,6 +50,7 @@ fn all(frames: &[Frame], repetitions: usize) {
     searches(frames, |frame, simple| search::compare_full(frame, simple, repetitions.min(3)));
     growth::compare(frames.iter().find(|frame| frame.config().key_frame).expect("a key frame"), repetitions);
     halting::compare(frames, repetitions);
+    frame_calls::compare(frames, repetitions);
 }
 
 /// Each frame with the normal and with the simple filter.
@@ -177,12 +180,15 @@ impl Case<'_> {
         }
     }
 
+    fn pass(&self) -> Pass {
+        if self.key { Pass::Key } else { Pass::Inter }
+    }
+
     /// Calls that each do `allowance` macroblocks, to the end of the picture.
     fn run_library(&self, planes: &mut KeyframePlanes, lists: &Lists, allowance: usize) {
         let KeyframePlanes { y, u, v, y_stride, uv_stride, mb_cols, mb_rows } = planes;
         let layout = Layout { columns: *mb_cols, rows: *mb_rows, y_stride: *y_stride, uv_stride: *uv_stride };
-        let pass = if self.key { Pass::Key } else { Pass::Inter };
-        let (mut start, mut count) = (0, 0);
+        let (pass, mut start, mut count) = (self.pass(), 0, 0);
         while start < lists.modes.len() {
             let mut next = start;
             let (planes, config) = ([&mut y[..], u, v], &self.config);

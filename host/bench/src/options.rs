@@ -1,6 +1,7 @@
 //! What the program is asked to do.
 
-pub const USAGE: &str = "usage: bench [REPETITIONS] [--noise AMPLITUDE] [--libvpx | --halting | --full-search]";
+pub const USAGE: &str =
+    "usage: bench [REPETITIONS] [--noise AMPLITUDE] [--libvpx | --halting | --full-search | --frame-calls]";
 
 #[derive(Debug, PartialEq)]
 pub struct Options {
@@ -21,6 +22,8 @@ pub enum Part {
     Halting,
     /// The full search alone.
     FullSearch,
+    /// The frame calls alone.
+    FrameCalls,
 }
 
 impl Options {
@@ -33,6 +36,7 @@ impl Options {
                 "--libvpx" => parts.push(Part::Libvpx),
                 "--halting" => parts.push(Part::Halting),
                 "--full-search" => parts.push(Part::FullSearch),
+                "--frame-calls" => parts.push(Part::FrameCalls),
                 number => options.repetitions = number.parse().ok().filter(|number| *number > 0)?,
             }
         }
@@ -54,6 +58,7 @@ mod tests {
         assert_eq!(read(""), Some(Options { repetitions: 20, noise: 0, part: Part::All }));
         assert_eq!(read("--noise 2 7 --libvpx"), Some(Options { repetitions: 7, noise: 2, part: Part::Libvpx }));
         assert_eq!(read("--full-search 1"), Some(Options { repetitions: 1, noise: 0, part: Part::FullSearch }));
+        assert_eq!(read("3 --frame-calls"), Some(Options { repetitions: 3, noise: 0, part: Part::FrameCalls }));
         for wrong in
             ["0", "-1", "--noise", "--noise 256", "--libvp", "--libvpx --halting", "--full-search --halting", "x"]
         {

@@ -6,7 +6,7 @@ use entries::bytes::{self, Records};
 use oracle::{FrameFilterConfig, KeyframePlanes, loop_filter};
 use std::fmt;
 
-pub use entries::Pass;
+pub use entries::{Form, Pass};
 pub use rules::{LARGEST, SIDE};
 
 /// y, u and v.
@@ -17,6 +17,33 @@ const UNTOUCHED: usize = 0x5A5A_5A5A_5A5A_5A5A;
 
 pub const PASSES: [Pass; 2] = [Pass::Key, Pass::Inter];
 
+/// What filters a frame: a pass, or the frame call beside it.
+#[derive(Clone, Copy, Debug, PartialEq)]
+pub struct Filter {
+    pub form: Form,
+    pub pass: Pass,
+}
+
+impl From<Pass> for Filter {
+    fn from(pass: Pass) -> Filter {
+        Filter { form: Form::Pass, pass }
+    }
+}
+
+impl Filter {
+    pub fn frame_call(pass: Pass) -> Filter {
+        Filter { form: Form::Frame, pass }
+    }
+
+    /// The name of its C function after `vp8lf_`.
+    pub fn entry(self) -> &'static str {
+        match self.form {
+            Form::Pass => self.pass.entry(),
+            Form::Frame => self.pass.frame_call(),
+        }
+    }
+}
+
 /// The lists of a picture: modes, segments, flags, references, inter modes.
 pub type ByteLists = [Vec<u8>; 5];
 pub const LIST_NAMES: [&str; 5] = ["modes", "segments", "flags", "references", "inter modes"];
@@ -26,6 +53,7 @@ pub const FLAGS: usize = 2;
 
 #[derive(Clone)]
 pub struct Call {
+    pub form: Form,
     pub pass: Pass,
     pub layout: Layout,
     pub planes: Planes,
@@ -81,6 +109,15 @@ impl Memory {
 }
 
 impl Call {
+    pub fn filter(&self) -> Filter {
+        Filter { form: self.form, pass: self.pass }
+    }
+
+    /// Whether the header level turns the filter off.
+    pub fn skips(&self) -> bool {
+        self.form == Form::Frame && self.config.loop_filter_level == 0
+    }
+
     /// Macroblocks in the grid of an accepted call.
     pub fn macroblocks(&self) -> usize {
         self.layout.columns * self.layout.rows
@@ -125,8 +162,11 @@ impl Call {
         Outcome::new(answer, planes)
     }
 
-    /// The Rust's level of a macroblock whose entries 6 does not refuse.
+    /// The Rust's level of a macroblock whose entries 6 does not refuse, or 0 where the filter is off.
     pub fn level(&self, m: usize) -> u8 {
+        if self.skips() {
+            return 0;
+        }
         let [mode, segment, _, reference, inter_mode] = self.lists.each_ref().map(|list| list.get(m).copied());
         let mode = mode.and_then(bytes::mode).expect("a mode");
         match self.pass {
@@ -139,8 +179,11 @@ impl Call {
         }
     }
 
-    /// What the Rust's pass makes of the whole grid.
+    /// What the Rust's pass makes of the whole grid, or the planes as they are where the filter is off.
     pub fn unbroken(&self) -> Planes {
+        if self.skips() {
+            return self.planes.clone();
+        }
         let mut planes = self.rust_planes();
         run_rust(self.pass, &mut planes, &self.records(), &self.config);
         [planes.y, planes.u, planes.v]
@@ -174,8 +217,8 @@ impl Call {
         let [_, count, _, next, _] = &mut out;
         let answer = guard::calling(self, || {
             let planes = [&mut *y, &mut *u, &mut *v];
-            let Call { pass, layout, config, start, allowance, .. } = self;
-            ffi::filter(*pass, planes, layout, &lists, config, *start, *allowance, count, next)
+            let Call { form, pass, layout, config, start, allowance, .. } = self;
+            ffi::filter_as(*form, *pass, planes, layout, &lists, config, *start, *allowance, count, next)
         });
         let Lists { modes, segments, flags, references, inter_modes } = lists;
         Outcome {
@@ -238,7 +281,7 @@ impl RustSteps<'_> {
 impl fmt::Display for Call {
     fn fmt(&self, f: &mut fmt::Formatter<'_>) -> fmt::Result {
         let Layout { columns, rows, y_stride, uv_stride } = self.layout;
-        writeln!(f, "  {}, start {}, allowance {}", self.pass.entry(), self.start, self.allowance)?;
+        writeln!(f, "  {}, start {}, allowance {}", self.filter().entry(), self.start, self.allowance)?;
         writeln!(f, "  columns {columns}, rows {rows}, luma stride {y_stride}, chroma stride {uv_stride}")?;
         writeln!(f, "  {:?}", self.config)?;
         for (name, list) in LIST_NAMES.iter().zip(self.lists_read()) {
@@ -333,6 +376,7 @@ mod tests {
         let planes = [0, 1, 2].map(|plane| vec![100; layout.least_length(plane)]);
         let lists = [const { Vec::new() }; 5].map(|_: Vec<u8>| vec![0; 2]);
         Call {
+            form: Form::Pass,
             pass: Pass::Inter,
             layout,
             planes,

@@ -3,7 +3,7 @@
 //! entries of macroblocks not yet begun.
 
 use crate::Plan;
-use crate::call::{Call, Done, Memory, Outcome, PASSES, Pass, Planes, SIDE};
+use crate::call::{Call, Done, Filter, Form, Memory, Outcome, PASSES, Planes, SIDE};
 use crate::guard::SIDES;
 use crate::passes::{each_step, rounds, same};
 use crate::pictures::{entries, picture, planes};
@@ -12,7 +12,7 @@ use crate::refusals::Changes;
 use crate::tally::{Kind, Tally};
 use rules::random::Random;
 
-const CLASSES: [&str; 12] = [
+pub const CLASSES: [&str; 12] = [
     "accepted call",
     "refused call",
     "refused call on other planes",
@@ -28,24 +28,25 @@ const CLASSES: [&str; 12] = [
 ];
 
 pub fn compare(plan: &Plan, tally: &mut Tally) {
-    let times = if plan.long { 200_000 } else { 4_000 };
-    for pass in PASSES {
-        let changes = Changes::new(pass);
-        tally.run(&format!("{}, lists of calls", pass.entry()), &CLASSES, |kind| {
-            rounds(plan, times, kind, |random, memory, kind| list(pass, &changes, random, memory, kind))
-        });
+    for filter in PASSES.map(Filter::from) {
+        tally.run(&format!("{}, lists of calls", filter.entry()), &CLASSES, |kind| lists(plan, filter, kind));
     }
 }
 
+pub fn lists(plan: &Plan, filter: Filter, kind: &mut Kind) -> Result<(), String> {
+    let (times, changes) = (if plan.long { 200_000 } else { 4_000 }, Changes::new(filter.pass));
+    rounds(plan, times, kind, |random, memory, kind| list(filter, &changes, random, memory, kind))
+}
+
 fn list(
-    pass: Pass,
+    filter: Filter,
     changes: &Changes,
     random: &mut Random,
     memory: &mut Memory,
     kind: &mut Kind,
 ) -> Result<(), String> {
     let most = random.one_of(&[1, 2, 3, 3, 4, 6]);
-    let picture = picture(pass, 1 + random.below(most), 1 + random.below(most), random);
+    let picture = picture(filter, 1 + random.below(most), 1 + random.below(most), random);
     let (n, unbroken, after) = (picture.macroblocks(), picture.unbroken(), each_step(&picture));
 
     // The picture, with the planes and the start last left.
@@ -72,6 +73,9 @@ fn list(
     kind.add_class("list without an accepted call", !accepted as u64);
     kind.add_class("list that ends inside the grid", (accepted && k < n) as u64);
     kind.add_class("list that ends with the grid", (k == n) as u64);
+    if filter.form == Form::Frame {
+        classify_frame_calls(&picture, k, kind);
+    }
     if counts != k || k as u128 != allowances.min(n as u128) || now.planes != after[k] {
         return Err(format!("a list of calls must leave what the first {k} macroblocks leave\n{picture}"));
     }
@@ -79,6 +83,14 @@ fn list(
         return Err(format!("a list of calls that ends with the grid must leave what one pass leaves\n{picture}"));
     }
     further(&picture, now, &unbroken, changes, random, memory, kind)
+}
+
+/// Counts what a list of frame calls that did k macroblocks shows.
+fn classify_frame_calls(picture: &Call, k: usize, kind: &mut Kind) {
+    let skipped = picture.skips() && k > 0;
+    let filters = || Call { form: Form::Pass, ..picture.clone() }.unbroken() != picture.planes;
+    kind.add_class("list at header level 0 that did macroblocks", skipped as u64);
+    kind.add_class("list at header level 0 where the pass filters", (skipped && filters()) as u64);
 }
 
 fn allowance(n: usize, random: &mut Random) -> usize {

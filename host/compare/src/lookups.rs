@@ -3,7 +3,7 @@
 //! decide on: with a limit that is one lower or one higher the Rust's kernel leaves another window.
 
 use crate::Plan;
-use crate::call::{ByteLists, Call, Done, FLAGS, MODES, Memory, Outcome, PASSES, Pass, Planes, SIDE};
+use crate::call::{ByteLists, Call, Done, FLAGS, Form, MODES, Memory, Outcome, PASSES, Pass, Planes, SIDE};
 use crate::guard::SIDES;
 use crate::kernels::{Kernel, Limits, Test};
 use crate::pairs::{Taps, bent};
@@ -94,7 +94,8 @@ impl Pair {
         let (layout, allowance) = (tight(columns, rows), columns * rows);
         let planes = if inner { inside(&windows, turned) } else { between(&windows, turned) };
         let lists = lists(inner, allowance, random);
-        Ok(Call { pass, layout, planes, lists, config, start: 0, allowance, side: random.one_of(&SIDES) })
+        let (form, side) = (Form::Pass, random.one_of(&SIDES));
+        Ok(Call { form, pass, layout, planes, lists, config, start: 0, allowance, side })
     }
 
     /// The level as the header's, or as that of every segment.

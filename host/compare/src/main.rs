@@ -7,6 +7,7 @@
 mod call;
 mod coefficients;
 mod final_rows;
+mod frames;
 mod grids;
 mod guard;
 mod halting;
@@ -57,6 +58,7 @@ const MODULES: &[(&str, Comparison)] = &[
     ("grids", grids::compare),
     ("refusals", refusals::compare),
     ("halting", halting::compare),
+    ("frames", frames::compare),
     ("final_rows", final_rows::compare),
     ("film", recorded::compare),
     ("search", search::compare),

@@ -1,7 +1,7 @@
 //! Pictures that single out a pair of level and sharpness: rows of samples about one edge, at the limits of the pair
 //! and just beyond them. Every pair is the best of a full search once, unless a lower pair filters by the same limits.
 
-use crate::call::{Call, FLAGS, MODES, Pass};
+use crate::call::{Call, FLAGS, Form, MODES, Pass};
 use crate::guard::SIDES;
 use crate::passes::tight;
 use crate::pictures::entries;
@@ -73,7 +73,8 @@ fn of_rows(pass: Pass, simple: bool, rows: &[Taps], random: &mut Random) -> Sear
     let lists =
         std::array::from_fn(|list| if without_inner_edges(list) { vec![0; 2] } else { entries(list, 2, random) });
     let scratch = [512, 128, 128].map(|len| (0..len).map(|_| random.byte()).collect());
-    let call = Call { pass, layout, planes, lists, config, start: 0, allowance: 2, side: random.one_of(&SIDES) };
+    let (form, side) = (Form::Pass, random.one_of(&SIDES));
+    let call = Call { form, pass, layout, planes, lists, config, start: 0, allowance: 2, side };
     Search { source: call.planes.clone(), call, width: 32, height: 16, strides: [32, 16, 16], scratch }
 }
 

@@ -2,7 +2,7 @@
 //! largest grids and strides.
 
 use crate::Plan;
-use crate::call::{Call, Done, FLAGS, MODES, Memory, Outcome, PASSES, Pass, Planes, RustSteps, SEGMENTS};
+use crate::call::{Call, Done, FLAGS, Filter, Form, MODES, Memory, Outcome, PASSES, Planes, RustSteps, SEGMENTS};
 use crate::pictures::{on_layout, picture};
 use crate::refusals::Changes;
 use crate::smaller_call::difference;
@@ -12,7 +12,7 @@ use entries::Layout;
 use oracle::{LoopFilterParams, opened};
 use rules::random::Random;
 
-const CLASSES: [&str; 19] = [
+pub const CLASSES: [&str; 19] = [
     "filtered",
     "not filtered",
     "halted",
@@ -35,13 +35,13 @@ const CLASSES: [&str; 19] = [
 ];
 
 pub fn compare(plan: &Plan, tally: &mut Tally) {
-    for pass in PASSES {
-        let name = pass.entry();
-        tally.run(&format!("{name}, every halting pattern"), &CLASSES, |kind| patterns(plan, pass, kind));
-        tally.run(&format!("{name}, random halts"), &CLASSES, |kind| random_halts(plan, pass, kind));
-        tally.run(&format!("{name}, any start"), &CLASSES, |kind| any_start(plan, pass, kind));
+    for filter in PASSES.map(Filter::from) {
+        let name = filter.entry();
+        tally.run(&format!("{name}, every halting pattern"), &CLASSES, |kind| patterns(plan, filter, kind));
+        tally.run(&format!("{name}, random halts"), &CLASSES, |kind| random_halts(plan, filter, kind));
+        tally.run(&format!("{name}, any start"), &CLASSES, |kind| any_start(plan, filter, kind));
         tally.run(&format!("{name}, largest grids and strides"), &["filtered", "halted"], |kind| {
-            largest(plan, pass, kind)
+            largest(plan, filter, kind)
         });
     }
 }
@@ -67,13 +67,13 @@ pub fn same(call: &Call, expected: Outcome, memory: &mut Memory) -> Result<Plane
 }
 
 /// Every way to cut the macroblocks of a small grid into calls.
-fn patterns(plan: &Plan, pass: Pass, kind: &mut Kind) -> Result<(), String> {
+pub fn patterns(plan: &Plan, filter: Filter, kind: &mut Kind) -> Result<(), String> {
     let times = if plan.long { 1_000 } else { 25 };
     let sizes = (1..=6).flat_map(|columns| (1..=6).map(move |rows| (columns, rows)));
     let sizes: Vec<(usize, usize)> = sizes.filter(|(columns, rows)| columns * rows <= 9).collect();
     rounds(plan, times, kind, |random, memory, kind| {
         for &(columns, rows) in &sizes {
-            let picture = picture(pass, columns, rows, random);
+            let picture = picture(filter, columns, rows, random);
             let after = each_step(&picture);
             let n = columns * rows;
             for pattern in 0..1u32 << (n - 1) {
@@ -86,11 +86,11 @@ fn patterns(plan: &Plan, pass: Pass, kind: &mut Kind) -> Result<(), String> {
     })
 }
 
-fn random_halts(plan: &Plan, pass: Pass, kind: &mut Kind) -> Result<(), String> {
+pub fn random_halts(plan: &Plan, filter: Filter, kind: &mut Kind) -> Result<(), String> {
     let times = if plan.long { 100_000 } else { 4_000 };
     rounds(plan, times, kind, |random, memory, kind| {
         let most = random.one_of(&[3, 5, 8, 12]);
-        let picture = picture(pass, 1 + random.below(most), 1 + random.below(most), random);
+        let picture = picture(filter, 1 + random.below(most), 1 + random.below(most), random);
         let after = each_step(&picture);
         let n = picture.macroblocks();
         let often = random.one_of(&[1, 2, 4, n]);
@@ -148,11 +148,11 @@ fn in_calls(
 }
 
 /// One call from any start with any allowance, on planes that no step before it touched.
-fn any_start(plan: &Plan, pass: Pass, kind: &mut Kind) -> Result<(), String> {
+pub fn any_start(plan: &Plan, filter: Filter, kind: &mut Kind) -> Result<(), String> {
     let times = if plan.long { 500_000 } else { 15_000 };
     rounds(plan, times, kind, |random, memory, kind| {
         let most = random.one_of(&[2, 4, 9]);
-        let call = from_any_start(pass, most, random);
+        let call = from_any_start(filter, most, random);
         let expected = call.expected();
         classify(&call, expected.done(), &expected.planes, kind);
         same(&call, expected, memory).map(|_| ())
@@ -160,8 +160,8 @@ fn any_start(plan: &Plan, pass: Pass, kind: &mut Kind) -> Result<(), String> {
 }
 
 /// A call on at most `most` columns and rows.
-fn from_any_start(pass: Pass, most: usize, random: &mut Random) -> Call {
-    let mut call = picture(pass, 1 + random.below(most), 1 + random.below(most), random);
+fn from_any_start(filter: Filter, most: usize, random: &mut Random) -> Call {
+    let mut call = picture(filter, 1 + random.below(most), 1 + random.below(most), random);
     let n = call.macroblocks();
     let any = random.below(n);
     call.start = random.one_of(&[0, 1, n - 1, n, any, any]);
@@ -173,17 +173,17 @@ fn from_any_start(pass: Pass, most: usize, random: &mut Random) -> Call {
 
 /// A call from any start, as drawn or with up to three changes, many of which are refused. What the Rust's steps leave
 /// of a whole picture is what its pass leaves.
-pub fn drawer(pass: Pass) -> Draw {
-    let (changes, mut memory) = (Changes::new(pass), Memory::new());
+pub fn drawer(filter: Filter) -> Draw {
+    let (changes, mut memory) = (Changes::new(filter.pass), Memory::new());
     Box::new(move |random, calls| {
         let most = if random.below(100) == 0 { 30 } else { random.one_of(&[2, 4, 9]) };
-        let mut call = from_any_start(pass, most, random);
+        let mut call = from_any_start(filter, most, random);
         changes.some(&mut call, random.one_of(&[0, 0, 1, 2, 3]), random);
         if random.below(20) == 0 {
             call.layout.rows = 0;
         }
         let expected = call.expected();
-        calls.add(pass.entry(), expected.answer);
+        calls.add(filter.entry(), expected.answer);
         let count = expected.done().count;
         let whole = expected.answer == 0 && count > 0 && count == call.macroblocks();
         if whole && expected.planes != call.unbroken() {
@@ -194,7 +194,7 @@ pub fn drawer(pass: Pass) -> Draw {
 }
 
 /// The largest grids that 1 accepts and the largest strides that 2 accepts, halted at random and whole.
-fn largest(plan: &Plan, pass: Pass, kind: &mut Kind) -> Result<(), String> {
+pub fn largest(plan: &Plan, filter: Filter, kind: &mut Kind) -> Result<(), String> {
     let wide = |columns, rows| Layout { columns, rows, y_stride: 65_536, uv_stride: 65_536 };
     let mut layouts = vec![
         tight(1024, 1),
@@ -211,12 +211,17 @@ fn largest(plan: &Plan, pass: Pass, kind: &mut Kind) -> Result<(), String> {
     }
     let (mut random, mut memory) = (Random::new(plan.seed), Memory::new());
     layouts.into_iter().try_for_each(|layout| {
-        let whole = filtering(pass, layout, &mut random);
+        let whole = filtering(filter, layout, &mut random);
         let halt = random.below(whole.macroblocks() + 1);
         let filtered = halted_and_whole(&whole, halt, &mut memory)?;
         kind.add_cases(3);
         kind.add_class("halted", (halt < whole.macroblocks()) as u64);
         kind.add_class("filtered", filtered as u64);
+        if filter.form == Form::Frame {
+            halted_and_whole(&turned_off(&whole), halt, &mut memory)?;
+            kind.add_cases(3);
+            kind.add_class("header level 0", 1);
+        }
         Ok(())
     })
 }
@@ -227,11 +232,18 @@ pub fn tight(columns: usize, rows: usize) -> Layout {
 }
 
 /// A whole picture with a level above 0.
-pub fn filtering(pass: Pass, layout: Layout, random: &mut Random) -> Call {
-    let mut whole = on_layout(pass, layout, random);
+pub fn filtering(filter: impl Into<Filter>, layout: Layout, random: &mut Random) -> Call {
+    let mut whole = on_layout(filter, layout, random);
     whole.config.loop_filter_level |= 16;
     whole.config.segmentation_enabled = false;
     whole
+}
+
+/// The same picture at header level 0, with deltas that lift every macroblock.
+pub fn turned_off(whole: &Call) -> Call {
+    let config = whole.config.with_loop_filter_level(0).with_delta_enabled(true).with_ref_delta_current(60);
+    let config = config.with_ref_delta_last(60).with_ref_delta_golden(60).with_ref_delta_altref(60);
+    Call { config, ..whole.clone() }
 }
 
 /// A whole picture in two calls, the first of which ends at `halt`, and in one. Answers whether its pass changes it.
@@ -271,8 +283,19 @@ pub fn stepped_to(picture: &Call, next: usize) -> Planes {
     steps.planes()
 }
 
+/// Counts what an accepted frame call shows, besides what it shows as a pass.
+fn classify_frame_call(call: &Call, done: Done, kind: &mut Kind) {
+    let lifted = || Call { form: Form::Pass, ..call.clone() }.level(call.start) > 0;
+    kind.add_class("header level 0", call.skips() as u64);
+    kind.add_class("header level above 0", !call.skips() as u64);
+    kind.add_class("skipped at a macroblock level above 0", (call.skips() && done.count > 0 && lifted()) as u64);
+}
+
 /// Counts what an accepted call on a grid with macroblocks shows.
 fn classify(call: &Call, done: Done, after: &Planes, kind: &mut Kind) {
+    if call.form == Form::Frame {
+        classify_frame_call(call, done, kind);
+    }
     kind.add_cases(1);
     let mut class = |name: &str, occurs: bool| kind.add_class(name, occurs as u64);
     let n = call.macroblocks();

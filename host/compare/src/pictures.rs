@@ -1,23 +1,25 @@
 //! Random pictures: grids, strides, samples with edges to smooth, lists and settings.
 
-use crate::call::{Call, FLAGS, LARGEST, Pass, Planes, SEGMENTS, SIDE};
+use crate::call::{Call, FLAGS, Filter, Form, LARGEST, Planes, SEGMENTS, SIDE};
 use crate::guard::SIDES;
 use crate::settings;
 use entries::Layout;
 use oracle::FrameFilterConfig;
 use rules::random::Random;
 
-/// A call of the whole pass on a random picture. Bytes outside the grid are random.
-pub fn picture(pass: Pass, columns: usize, rows: usize, random: &mut Random) -> Call {
+/// A call of the whole pass on a random picture. Bytes outside the grid are random. Half of the frame calls have header
+/// level 0.
+pub fn picture(filter: impl Into<Filter>, columns: usize, rows: usize, random: &mut Random) -> Call {
     let layout =
         Layout { columns, rows, y_stride: stride(16 * columns, random), uv_stride: stride(8 * columns, random) };
-    on_layout(pass, layout, random)
+    on_layout(filter, layout, random)
 }
 
 /// The same with given strides.
-pub fn on_layout(pass: Pass, layout: Layout, random: &mut Random) -> Call {
-    let n = layout.columns * layout.rows;
-    Call {
+pub fn on_layout(filter: impl Into<Filter>, layout: Layout, random: &mut Random) -> Call {
+    let (Filter { form, pass }, n) = (filter.into(), layout.columns * layout.rows);
+    let mut call = Call {
+        form,
         pass,
         layout,
         planes: planes(&layout, random),
@@ -26,7 +28,11 @@ pub fn on_layout(pass: Pass, layout: Layout, random: &mut Random) -> Call {
         start: 0,
         allowance: n,
         side: random.one_of(&SIDES),
+    };
+    if form == Form::Frame && random.yes() {
+        call.config.loop_filter_level = 0;
     }
+    call
 }
 
 fn stride(width: usize, random: &mut Random) -> usize {

@@ -1,8 +1,8 @@
-//! Recorded film: the film, the Rust and the library leave the same planes, in one call, row by row and halted at
-//! random.
+//! Recorded film: the film, the Rust and the library's passes leave the same planes, in one call, row by row and halted at
+//! random. The frame calls leave alone what the RFC's decoder left alone, and else what the film says.
 
 use crate::Plan;
-use crate::call::{Call, Done, Memory, Outcome, Pass, Planes};
+use crate::call::{Call, Done, Form, Memory, Outcome, Pass, Planes};
 use crate::guard::SIDES;
 use crate::passes::{same, stepped_to};
 use crate::tally::{Kind, Tally};
@@ -12,7 +12,7 @@ use rules::random::Random;
 use std::fs;
 use std::path::Path;
 
-const CLASSES: [&str; 12] = [
+const CLASSES: [&str; 15] = [
     "key",
     "inter",
     "normal filter",
@@ -25,6 +25,9 @@ const CLASSES: [&str; 12] = [
     "filtered",
     "not filtered",
     "halted",
+    "left alone by the RFC's decoder",
+    "left alone where the pass filters",
+    "frame call that filters",
 ];
 
 pub fn compare(plan: &Plan, tally: &mut Tally) {
@@ -89,28 +92,46 @@ fn compare_frame(
     }
     classify(stream, frame, &after, kind);
     let (n, columns) = (whole.macroblocks(), whole.layout.columns);
-    let halts: [Vec<usize>; 3] = [
-        vec![n],
-        (1..=whole.layout.rows).map(|row| row * columns).collect(),
-        [random.below(n), random.below(n)].into_iter().filter(|halt| *halt > 0).chain([n]).collect(),
-    ];
-    for mut halts in halts {
-        halts.sort();
-        let mut halted = Call { side: random.one_of(&SIDES), ..whole.clone() };
-        for next in halts {
-            halted.allowance = next - halted.start;
-            let done = Done { count: halted.allowance, next };
-            let planes = if next == n { after.clone() } else { stepped_to(&whole, next) };
-            add_case(&whole, done, kind);
-            halted.planes = same(&halted, Outcome::new(Ok(done), planes), memory)?;
-            halted.start = next;
-        }
+    let rows: Vec<usize> = (1..=whole.layout.rows).map(|row| row * columns).collect();
+    let any = [random.below(n), random.below(n)].into_iter().filter(|halt| *halt > 0).chain([n]).collect();
+    for halts in [vec![n], rows.clone(), any] {
+        in_calls(&whole, &after, halts, random, memory, kind)?;
+    }
+    let frame_call = Call { form: Form::Frame, ..whole.clone() };
+    let left = if frame.left_alone() { frame.planes.clone() } else { after.clone() };
+    kind.add_class("left alone by the RFC's decoder", frame.left_alone() as u64);
+    kind.add_class("left alone where the pass filters", (frame.left_alone() && after != frame.planes) as u64);
+    kind.add_class("frame call that filters", (left != frame.planes) as u64);
+    for halts in [vec![n], rows] {
+        in_calls(&frame_call, &left, halts, random, memory, kind)?;
     }
     // A key frame has no references, so the inter pass does the same.
     if whole.pass == Pass::Key {
         let done = Done { count: n, next: n };
         add_case(&whole, done, kind);
         same(&Call { pass: Pass::Inter, ..whole }, Outcome::new(Ok(done), after), memory)?;
+    }
+    Ok(())
+}
+
+/// The frame in calls that end at `halts`, which together leave `after`.
+fn in_calls(
+    whole: &Call,
+    after: &Planes,
+    mut halts: Vec<usize>,
+    random: &mut Random,
+    memory: &mut Memory,
+    kind: &mut Kind,
+) -> Result<(), String> {
+    halts.sort();
+    let mut halted = Call { side: random.one_of(&SIDES), ..whole.clone() };
+    for next in halts {
+        halted.allowance = next - halted.start;
+        let done = Done { count: halted.allowance, next };
+        let planes = if next == whole.macroblocks() { after.clone() } else { stepped_to(whole, next) };
+        add_case(whole, done, kind);
+        halted.planes = same(&halted, Outcome::new(Ok(done), planes), memory)?;
+        halted.start = next;
     }
     Ok(())
 }
@@ -125,6 +146,7 @@ pub fn call(frame: &Frame, random: &mut Random) -> Call {
     let (columns, rows) = (frame.columns(), frame.rows());
     let config = frame.config();
     Call {
+        form: Form::Pass,
         pass: if config.key_frame { Pass::Key } else { Pass::Inter },
         layout: Layout { columns, rows, y_stride: 16 * columns, uv_stride: 8 * columns },
         planes: frame.planes.clone(),

@@ -2,14 +2,14 @@
 //! no lent byte changes.
 
 use crate::Plan;
-use crate::call::{Call, LARGEST, Memory, PASSES, Pass};
+use crate::call::{Call, Filter, Form, LARGEST, Memory, PASSES, Pass};
 use crate::passes::{rounds, same};
 use crate::pictures::picture;
 use crate::tally::{Kind, Tally};
 use entries::Layout;
 use rules::random::Random;
 
-const CLASSES: [&str; 10] = [
+pub const CLASSES: [&str; 10] = [
     "refused: 1",
     "refused: 2",
     "refused: 3",
@@ -23,8 +23,8 @@ const CLASSES: [&str; 10] = [
 ];
 
 pub fn compare(plan: &Plan, tally: &mut Tally) {
-    for pass in PASSES {
-        tally.run(&format!("{}, refusals", pass.entry()), &CLASSES, |kind| refusals(plan, pass, kind));
+    for filter in PASSES.map(Filter::from) {
+        tally.run(&format!("{}, refusals", filter.entry()), &CLASSES, |kind| refusals(plan, filter, kind));
     }
 }
 
@@ -158,8 +158,8 @@ fn put(call: &mut Call, list: usize, entry: u8, random: &mut Random) {
     }
 }
 
-fn refusals(plan: &Plan, pass: Pass, kind: &mut Kind) -> Result<(), String> {
-    let changes = Changes::new(pass);
+pub fn refusals(plan: &Plan, filter: Filter, kind: &mut Kind) -> Result<(), String> {
+    let changes = Changes::new(filter.pass);
     let zero_grids: [fn(&mut Call); 3] = [
         |call| call.layout.columns = 0,
         |call| call.layout.rows = 0,
@@ -167,7 +167,7 @@ fn refusals(plan: &Plan, pass: Pass, kind: &mut Kind) -> Result<(), String> {
     ];
     let (times, many) = if plan.long { (300, 1_000_000) } else { (8, 30_000) };
     let small = |random: &mut Random| {
-        let mut call = picture(pass, 1 + random.below(3), 1 + random.below(3), random);
+        let mut call = picture(filter, 1 + random.below(3), 1 + random.below(3), random);
         call.start = random.below(call.macroblocks());
         call.allowance = random.below(call.macroblocks() + 2);
         call
@@ -207,6 +207,9 @@ fn refusals(plan: &Plan, pass: Pass, kind: &mut Kind) -> Result<(), String> {
 /// Compares a call whose refusals are in question.
 fn refused(call: &Call, memory: &mut Memory, kind: &mut Kind) -> Result<(), String> {
     kind.add_cases(1);
+    if call.form == Form::Frame {
+        kind.add_class("refused at header level 0", (call.skips() && call.rule().is_err()) as u64);
+    }
     match call.rule() {
         Err(number) => kind.add_class(&format!("refused: {number}"), 1),
         Ok(_) if call.layout.columns == 0 || call.layout.rows == 0 => kind.add_class("zero grid", 1),

@@ -1,6 +1,6 @@
 //! Random calls of every C function, valid and damaged, one after the other until the time is up. A seed determines which.
 
-use crate::call::PASSES;
+use crate::call::{Filter, PASSES};
 use crate::tally::grouped;
 use crate::{
     coefficients, final_rows, kernels, levels, limits, numbers, passes, search, slices, sources, stills, table,
@@ -11,7 +11,7 @@ use std::time::{Duration, Instant, SystemTime, UNIX_EPOCH};
 
 /// The functions of the header in its order, without `vp8lf_`, and the numbers that each can refuse a call with. The
 /// largest grid's sum is far below 64 bits, so 10 cannot come.
-const ENTRIES: [(&str, &[u8]); 22] = [
+const ENTRIES: [(&str, &[u8]); 24] = [
     ("clamp_s8", &[]),
     ("u2s", &[]),
     ("s2u", &[]),
@@ -26,6 +26,8 @@ const ENTRIES: [(&str, &[u8]); 22] = [
     ("mb_has_coeffs", &[]),
     ("filter_frame", &[1, 2, 3, 5, 6, 7]),
     ("filter_inter_frame", &[1, 2, 3, 5, 6, 7]),
+    ("loop_filter_frame", &[1, 2, 3, 5, 6, 7]),
+    ("loop_filter_inter_frame", &[1, 2, 3, 5, 6, 7]),
     ("final_rows", &[1, 7]),
     ("reconstruction_ssd", &[1, 2, 3, 8, 9]),
     ("select_filter_params", &[1, 2, 3, 6, 8, 9]),
@@ -55,7 +57,8 @@ fn draws() -> Vec<(usize, Draw)> {
         (20, Box::new(final_rows::draw)),
     ];
     for pass in PASSES {
-        draws.push((100, passes::drawer(pass)));
+        draws.push((100, passes::drawer(pass.into())));
+        draws.push((50, passes::drawer(Filter::frame_call(pass))));
         draws.push((40, search::drawer(pass)));
         draws.push((1, sources::drawer(pass)));
         draws.push((16, stills::drawer(pass)));

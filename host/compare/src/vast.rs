@@ -2,10 +2,11 @@
 //! whose length is right in 32 bits only. Little of such a slice is ever touched, so little of it is memory.
 
 use crate::Plan;
-use crate::call::{ByteLists, Call, FLAGS, PASSES, Pass, Planes, SEGMENTS};
+use crate::call::{ByteLists, Call, FLAGS, Filter, Form, PASSES, Pass, Planes, SEGMENTS};
 use crate::ffi::{self, Choice, Lists, Sought};
 use crate::guard::{self, Guarded};
 use crate::kernels::{ENTRIES, Kernel, KernelOf, UNTOUCHED, middle, window};
+use crate::passes::{filtering, tight, turned_off};
 use crate::pictures::picture;
 use crate::search::{Search, against_source};
 use crate::stills::Expected;
@@ -37,9 +38,11 @@ pub fn compare(plan: &Plan, tally: &mut Tally) {
     tally.run("mb_has_coeffs, 2^32 numbers and more", &["first number set"], |kind| coefficients(&mut vast, kind));
     for pass in PASSES {
         let classes = [&PLANES[..], &[LIST]].concat();
-        tally.run(&format!("{}, above 2^32 bytes", pass.entry()), &classes, |kind| {
-            passes(pass, &mut random, &mut vast, kind)
-        });
+        for filter in [pass.into(), Filter::frame_call(pass)] {
+            tally.run(&format!("{}, above 2^32 bytes", filter.entry()), &classes, |kind| {
+                passes(filter, &mut random, &mut vast, kind)
+            });
+        }
         let classes = [&LONG[..], &[LIST]].concat();
         let name = format!("{} and {}, above 2^32 bytes", Sought::Params.entry(pass), pass.full_search());
         tally.run(&name, &classes, |kind| searches(pass, &mut random, &mut vast, kind));
@@ -148,12 +151,20 @@ fn with_long<const N: usize, A>(
 }
 
 /// Each plane longer than it need be, and each list of a length that is wrong by 2^32.
-fn passes(pass: Pass, random: &mut Random, vast: &mut Guarded, kind: &mut Kind) -> Result<(), String> {
-    let call = picture(pass, 2, 2, random);
-    let Call { layout, config, start, allowance, .. } = &call;
+/// A frame call besides at header level 0.
+fn passes(filter: Filter, random: &mut Random, vast: &mut Guarded, kind: &mut Kind) -> Result<(), String> {
+    let call = filtering(filter, tight(2, 2), random);
+    if filter.form == Form::Frame {
+        pass(&turned_off(&call), vast, kind)?;
+    }
+    pass(&call, vast, kind)
+}
+
+fn pass(call: &Call, vast: &mut Guarded, kind: &mut Kind) -> Result<(), String> {
+    let Call { form, pass, layout, config, start, allowance, .. } = call;
     for long in 0..3 + call.lists_read().len() {
         let len = if long < 3 { PLANE } else { (1 << 32) + call.macroblocks() };
-        let judged = if long < 3 { call.clone() } else { longer_list(&call, long - 3) };
+        let judged = if long < 3 { call.clone() } else { longer_list(call, long - 3) };
         let expected = judged.expected();
         let what = format!("{call}\n  with slice {long} (planes, lists) of {len} bytes");
         let lent = [&slices(&judged.planes, &judged.lists), &slices(&expected.planes, &judged.lists)];
@@ -162,7 +173,8 @@ fn passes(pass: Pass, random: &mut Random, vast: &mut Guarded, kind: &mut Kind) 
                 let lists = Lists { modes, segments, flags, references, inter_modes };
                 let [mut count, mut next] = [expected.done().count, expected.done().next].map(|number| !number);
                 let answer = guard::calling(&what, || {
-                    ffi::filter(pass, [y, u, v], layout, &lists, config, *start, *allowance, &mut count, &mut next)
+                    let (count, next) = (&mut count, &mut next);
+                    ffi::filter_as(*form, *pass, [y, u, v], layout, &lists, config, *start, *allowance, count, next)
                 });
                 (answer, count, next)
             });

@@ -1,6 +1,6 @@
 //! The rows of docs/DIFFERENCES.md: the input of each, on the Rust and on the library. A row names its test.
 
-use entries::{Choice, Layout, Lists, Pass, Search, Sought, Source, bytes};
+use entries::{Choice, Form, Layout, Lists, Pass, Search, Sought, Source, bytes};
 use oracle::{FrameFilterConfig, InterMode, IntraYMode, KeyframePlanes, MbCoeffs, RefFrame};
 use oracle::{LoopFilterParams, SourcePlanes, loop_filter as rust};
 use std::panic::catch_unwind;
@@ -271,6 +271,15 @@ impl Picture {
         (number, [count, next], planes)
     }
 
+    /// What the library's frame call from start 0 leaves, with its count and next start.
+    fn frame_call(&self, pass: Pass, config: &FrameFilterConfig, allowance: usize) -> (u8, [usize; 2], KeyframePlanes) {
+        let (mut planes, mut count, mut next) = (self.planes.clone(), 99, 99);
+        let (form, lent) = (Form::Frame, [&mut planes.y[..], &mut planes.u, &mut planes.v]);
+        let (layout, lists) = (self.layout(), self.lists());
+        let number = entries::filter_as(form, pass, lent, &layout, &lists, config, 0, allowance, &mut count, &mut next);
+        (number, [count, next], planes)
+    }
+
     /// What the library's whole pass leaves, or the number of its refusal, which leaves the planes alone.
     #[track_caller]
     fn here(&self, pass: Pass, config: &FrameFilterConfig) -> Result<KeyframePlanes, u8> {
@@ -310,6 +319,25 @@ fn header_level_0_with_a_delta() {
         assert!(picture.both(pass, &config) != picture.planes, "filtered");
         assert!(picture.both(pass, &config.with_delta_enabled(false)) == picture.planes, "level 0");
     }
+}
+
+/// With a segment's level too, and halted: the first of the two macroblocks, which has no edge, counts as done.
+#[test]
+fn frame_call_at_header_level_0() {
+    let picture = Picture::new(2, 1);
+    let delta = header(0).with_delta_enabled(true).with_ref_delta_current(20);
+    let segment = header(0).with_segmentation_enabled(true).with_segment_abs(true).with_segment_lf_level([20; 4]);
+    for (pass, config) in PASSES.into_iter().flat_map(|pass| [(pass, delta), (pass, segment)]) {
+        let filtered = picture.both(pass, &config);
+        assert!(filtered != picture.planes, "the Rust filters");
+        assert!(picture.frame_call(pass, &config, 2) == (0, [2, 2], picture.planes.clone()), "skipped");
+        assert!(picture.frame_call(pass, &config, 1) == (0, [1, 1], picture.planes.clone()), "skipped and halted");
+        let above = config.with_loop_filter_level(1);
+        assert!(picture.both(pass, &above) != picture.planes, "the Rust filters");
+        assert!(picture.frame_call(pass, &above, 2) == (0, [2, 2], picture.both(pass, &above)), "as the Rust");
+    }
+    let short = Picture { flags: vec![0], ..picture };
+    assert_eq!(short.frame_call(Pass::Key, &delta, 2).0, 5, "refused before it is skipped");
 }
 
 #[test]

@@ -218,6 +218,87 @@ fn halted_passes() {
     }
 }
 
+/// What the Rust's passes leave, key and inter, or the planes as they are where the header level is 0.
+fn frames_by_the_rust(case: &Case, config: &oracle::FrameFilterConfig) -> [oracle::KeyframePlanes; 2] {
+    let [mut key, mut inter] = [of_the_rust(&case.planes), of_the_rust(&case.planes)];
+    if config.loop_filter_level > 0 {
+        let (modes, coeffs) = (&case.modes.0, &case.coeffs.0);
+        oracle::loop_filter::filter_frame(&mut key, modes, coeffs, config);
+        let (references, inter_modes) = (&case.references.0, &case.inter_modes.0);
+        oracle::loop_filter::filter_inter_frame(&mut inter, modes, coeffs, references, inter_modes, config);
+    }
+    [key, inter]
+}
+
+/// What each frame call leaves: of the key frame, then of the inter frame.
+fn frames_here(case: &Case, config: &here::FrameFilterConfig, halt: usize) -> [Vec<here::KeyframePlanes>; 2] {
+    let Case { modes: (_, modes), coeffs: (_, coeffs), flags, .. } = case;
+    let (references, inter_modes) = (&case.references.1, &case.inter_modes.1);
+    let n = flags.len();
+    let left = |filter: &dyn Fn(&mut here::KeyframePlanes) -> Result<(), here::Refusal>| {
+        let mut planes = case.planes.clone();
+        filter(&mut planes).expect("accepted");
+        planes
+    };
+    let done = |done: here::Done, next: usize, count: usize| assert_eq!(done, here::Done { count, next });
+    let key = vec![
+        left(&|planes| here::loop_filter_frame(planes, modes, coeffs, config)),
+        left(&|planes| here::loop_filter_frame_flags(planes, modes, flags, config)),
+        left(&|planes| {
+            done(here::loop_filter_frame_from(planes, modes, flags, config, 0, halt)?, halt, halt);
+            done(here::loop_filter_frame_from(planes, modes, flags, config, halt, usize::MAX)?, n, n - halt);
+            Ok(())
+        }),
+        left(&|planes| prepared(here::FramePass::of_frame(planes, modes, flags, None, config)?, halt)),
+    ];
+    let from = |planes: &mut _, start, allowance| {
+        here::loop_filter_inter_frame_from(planes, modes, flags, references, inter_modes, config, start, allowance)
+    };
+    let info = here::InterFilterInfo { ref_frames: references, inter_modes };
+    let inter = vec![
+        left(&|planes| here::loop_filter_inter_frame(planes, modes, coeffs, references, inter_modes, config)),
+        left(&|planes| here::loop_filter_inter_frame_flags(planes, modes, flags, references, inter_modes, config)),
+        left(&|planes| {
+            done(from(planes, 0, halt)?, halt, halt);
+            done(from(planes, halt, usize::MAX)?, n, n - halt);
+            Ok(())
+        }),
+        left(&|planes| prepared(here::FramePass::of_frame(planes, modes, flags, Some(&info), config)?, halt)),
+    ];
+    [key, inter]
+}
+
+/// A prepared pass that is halted once.
+fn prepared(mut pass: here::FramePass<'_>, halt: usize) -> Result<(), here::Refusal> {
+    assert_eq!(pass.advance(halt)?, here::Done { count: halt, next: halt });
+    pass.advance(usize::MAX)?;
+    assert!(pass.is_done());
+    Ok(())
+}
+
+/// The frame calls in every form: the Rust's passes, but for header level 0, at which the planes stay.
+#[test]
+fn frame_calls() {
+    let mut random = Random(7);
+    let [mut changed, mut skipped] = [0; 2];
+    for case in cases() {
+        let halt = random.below(case.flags.len() + 1);
+        for level in [case.config.0.loop_filter_level, 0] {
+            let config = (case.config.0.with_loop_filter_level(level), case.config.1.with_loop_filter_level(level));
+            let expected = frames_by_the_rust(&case, &config.0);
+            for (expected, left) in expected.iter().zip(frames_here(&case, &config.1, halt)) {
+                left.iter().for_each(|planes| assert_eq!(of_the_rust(planes), *expected));
+            }
+            changed += (expected[0] != of_the_rust(&case.planes)) as usize;
+            let mut pass = case.planes.clone();
+            here::filter_frame_flags(&mut pass, &case.modes.1, &case.flags, &config.1).expect("accepted");
+            skipped += (level == 0 && pass != case.planes) as usize;
+        }
+    }
+    assert!(changed > 200, "only {changed} pictures changed");
+    assert!(skipped > 50, "only {skipped} pictures that the pass changes were skipped");
+}
+
 /// A prepared pass whose samples and records come row by row, just before their turn, leaves what the Rust leaves of the
 /// whole picture. Rows once final are sent, and are those of the result.
 #[test]

@@ -14,14 +14,14 @@ fn passage(example: &str) -> String {
 #[test]
 fn lines_of_c() {
     let passage = passage(C);
-    assert!(passage.contains("vp8lf_filter("), "the passage filters");
+    assert!(passage.contains("vp8lf_loop_filter("), "the passage filters");
     assert!(README.contains(&passage), "README.md has not these lines of examples/filter.c:\n{passage}");
 }
 
 #[test]
 fn lines_of_rust() {
     let passage = passage(RUST);
-    assert!(passage.contains("FramePass::new("), "the passage filters");
+    assert!(passage.contains("FramePass::of_frame("), "the passage filters");
     assert!(README.contains(&passage), "README.md has not these lines of examples/rows.rs:\n{passage}");
 }
 

@@ -9,8 +9,8 @@ use vp8_loop_filter::{Planes, PlanesMut, Scratch, SourcePlanes};
 pub use rules::Layout;
 
 pub use lent::{
-    clamp_s8, common_adjust, derive, interior_limits, mb_filter, mb_has_coeffs, s2u, simple_segment, subblock_filter,
-    u2s,
+    Form, clamp_s8, common_adjust, derive, interior_limits, mb_filter, mb_has_coeffs, s2u, simple_segment,
+    subblock_filter, u2s,
 };
 
 /// Which pass a C function runs.
@@ -26,6 +26,14 @@ impl Pass {
         match self {
             Pass::Key => "filter_frame",
             Pass::Inter => "filter_inter_frame",
+        }
+    }
+
+    /// The name of the C function after `vp8lf_` that is the frame call beside it.
+    pub fn frame_call(self) -> &'static str {
+        match self {
+            Pass::Key => "loop_filter_frame",
+            Pass::Inter => "loop_filter_inter_frame",
         }
     }
 
@@ -131,6 +139,23 @@ pub fn calculate_mb_filter_level_inter(
 #[allow(clippy::too_many_arguments)]
 pub fn filter(
     pass: Pass,
+    planes: [&mut [u8]; 3],
+    layout: &Layout,
+    lists: &Lists,
+    config: &FrameFilterConfig,
+    start: usize,
+    allowance: usize,
+    count: &mut usize,
+    next: &mut usize,
+) -> u8 {
+    filter_as(Form::Pass, pass, planes, layout, lists, config, start, allowance, count, next)
+}
+
+/// A pass, or the frame call beside it.
+#[allow(clippy::too_many_arguments)]
+pub fn filter_as(
+    form: Form,
+    pass: Pass,
     [y, u, v]: [&mut [u8]; 3],
     layout: &Layout,
     lists: &Lists,
@@ -142,7 +167,7 @@ pub fn filter(
 ) -> u8 {
     let Layout { columns: mb_cols, rows: mb_rows, y_stride, uv_stride } = *layout;
     let mut planes = PlanesMut { y, u, v, y_stride, uv_stride, mb_cols, mb_rows };
-    lent::filter(&mut planes, &lists.of(pass), &settings(config), start, allowance, count, next)
+    lent::filter(form, &mut planes, &lists.of(pass), &settings(config), start, allowance, count, next)
 }
 
 pub fn final_rows(layout: &Layout, start: usize, luma: &mut usize, chroma: &mut usize) -> u8 {

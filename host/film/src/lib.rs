@@ -145,6 +145,11 @@ impl Frame {
         (self.number(16) as usize, self.number(18) as usize)
     }
 
+    /// Whether the header level is 0 and the RFC's decoder leaves the frame as it was.
+    pub fn left_alone(&self) -> bool {
+        self.header[56] != 0
+    }
+
     pub fn config(&self) -> FrameFilterConfig {
         let mark = |at: usize| self.header[at] != 0;
         let signed = |at: usize| self.number(at) as i16;

@@ -1,5 +1,6 @@
 //! Records the answers of the Rust that the programs `crates/replay` and `crates/replay_search` replay. Where the Rust has
-//! no answer, as for a refused call, the recorded one is document 01's.
+//! no answer, as for a refused call, the recorded one is document 01's; for a frame call at header level 0, which the Rust's
+//! passes do not test, it is the pass's answer with the planes as they were.
 //!
 //! Without arguments it writes `stdin` and `stdout` of the programs anew. With `--check` it makes them anew and compares
 //! them with the files. With `--film FILE` it writes the film of the repository as one `.vplf` file.
@@ -13,6 +14,7 @@ mod settings;
 mod small;
 
 use bytes::Bytes;
+use passes::Form;
 use rules::random::Random;
 use std::path::Path;
 use std::process::ExitCode;
@@ -47,8 +49,10 @@ type Program = (&'static str, Vec<Section>);
 fn programs() -> [Program; 2] {
     let random = &mut Random::new(SEED);
     let mut sections = small::sections(random);
-    sections.extend(passes::sections(random));
+    sections.extend(passes::sections(Form::Pass, random));
     sections.extend(recorded_film::sections());
+    // With numbers of their own, so that the other recordings do not depend on them.
+    sections.extend(passes::sections(Form::Frame, &mut Random::new(!SEED)));
     [("replay", sections), ("replay_search", search::sections(random))]
 }
 

@@ -6,9 +6,24 @@ use crate::picture::{self, Answer, LENGTHS, Layout, Lists, PASSES, Pass, Picture
 use crate::settings;
 use rules::random::Random;
 
+/// A pass, or the frame call beside it, which leaves the planes alone at header level 0.
+#[derive(Clone, Copy, Debug, PartialEq)]
+pub enum Form {
+    Pass,
+    Frame,
+}
+
+impl Form {
+    /// Whether the header level turns the filter off.
+    fn skips(self, picture: &Picture) -> bool {
+        self == Form::Frame && picture.config.loop_filter_level == 0
+    }
+}
+
 /// What a call of a pass answers and leaves, by document 01 and the Rust.
-fn expected(picture: &Picture, answer: Answer) -> Planes {
+fn expected(form: Form, picture: &Picture, answer: Answer) -> Planes {
     match answer {
+        _ if form.skips(picture) => picture.planes.clone(),
         Ok([count, next]) if count > 0 => {
             let n = picture.layout.columns * picture.layout.rows;
             let (whole, steps) = (picture.unbroken(), picture.steps(0..n));
@@ -19,28 +34,32 @@ fn expected(picture: &Picture, answer: Answer) -> Planes {
     }
 }
 
-pub fn sections(random: &mut Random) -> Vec<Section> {
+pub fn sections(form: Form, random: &mut Random) -> Vec<Section> {
     let mut sections = Vec::new();
+    let prefix = if form == Form::Frame { "loop_" } else { "" };
     let name = |pass: Pass, more: &str| match pass {
-        Pass::Key => format!("filter_frame{more}"),
-        Pass::Inter => format!("filter_inter_frame{more}"),
+        Pass::Key => format!("{prefix}filter_frame{more}"),
+        Pass::Inter => format!("{prefix}filter_inter_frame{more}"),
     };
-    for (pass, count) in PASSES.into_iter().zip([12, 15]) {
-        sections.push(Section::new(&name(pass, ""), (0..count).map(|i| ordinary(random, pass, i)).collect::<Vec<_>>()));
+    // Of the calls that change samples, over byte lists and over records: key, inter.
+    let [lists, record_lists] = if form == Form::Pass { [[12, 15], [18, 18]] } else { [[6, 8], [9, 9]] };
+    for (pass, count) in PASSES.into_iter().zip(lists) {
+        let records = (0..count).map(|i| ordinary(form, random, pass, i)).collect::<Vec<_>>();
+        sections.push(Section::new(&name(pass, ""), records));
     }
     for pass in PASSES {
-        sections.push(Section::new(&name(pass, ", nothing changes"), idle(random, pass)));
+        sections.push(Section::new(&name(pass, ", nothing changes"), idle(form, random, pass)));
     }
     for pass in PASSES {
-        let records = (0..4).map(|i| halted(random, pass, i)).collect::<Vec<_>>();
+        let records = (0..4).map(|i| halted(form, random, pass, i)).collect::<Vec<_>>();
         sections.push(Section::new(&name(pass, ", halted and resumed"), records).marked(2));
     }
-    for (pass, count) in PASSES.into_iter().zip([18, 18]) {
-        let records = (0..count).map(|i| over_records(random, pass, i)).collect::<Vec<_>>();
+    for (pass, count) in PASSES.into_iter().zip(record_lists) {
+        let records = (0..count).map(|i| over_records(form, random, pass, i)).collect::<Vec<_>>();
         sections.push(Section::new(&name(pass, "_records"), records));
     }
     for pass in PASSES {
-        sections.push(Section::new(&name(pass, "_records, nothing changes"), idle_records(random, pass)));
+        sections.push(Section::new(&name(pass, "_records, nothing changes"), idle_records(form, random, pass)));
     }
     sections
 }
@@ -65,27 +84,47 @@ pub fn drawn(random: &mut Random, pass: Pass, i: usize) -> (Picture, Lists) {
     }
 }
 
+/// The same for a form of the pass. Every other frame call has header level 0, with settings at which the pass changes
+/// the picture; the others have a level above it.
+fn drawn_for(form: Form, random: &mut Random, pass: Pass, i: usize) -> (Picture, Lists) {
+    loop {
+        let (mut drawn, lists) = drawn(random, pass, i);
+        if form == Form::Pass {
+            return (drawn, lists);
+        }
+        if i % 2 == 1 {
+            drawn.config.loop_filter_level = 0;
+        }
+        if form.skips(&drawn) == (i % 2 == 1) && drawn.unbroken() != drawn.planes {
+            return (drawn, lists);
+        }
+    }
+}
+
 /// The whole pass, and now and then a part of it.
-fn ordinary(random: &mut Random, pass: Pass, i: usize) -> Bytes {
-    let (drawn, lists) = drawn(random, pass, i);
+fn ordinary(form: Form, random: &mut Random, pass: Pass, i: usize) -> Bytes {
+    let (drawn, lists) = drawn_for(form, random, pass, i);
     let (start, allowance) = [(0, usize::MAX), (0, 4), (0, 5), (1, 2), (3, usize::MAX)][i % 5];
     let answer = picture::rule(&drawn.layout, false, start, allowance);
-    let after = expected(&drawn, answer);
+    let after = expected(form, &drawn, answer);
     let head = Bytes::default().place(&drawn.layout, start, allowance).settings(&drawn.config);
     let head = lists.0.iter().fold(head, |head, list| head.bytes(list)).answer(answer);
     planes(planes(head, &drawn.planes), &after)
 }
 
-/// A call that is halted after some macroblocks, and the one that goes on to the end. Both change samples.
-fn halted(random: &mut Random, pass: Pass, i: usize) -> Bytes {
+/// A call that is halted after some macroblocks, and the one that goes on to the end. Both calls of the pass change
+/// samples.
+fn halted(form: Form, random: &mut Random, pass: Pass, i: usize) -> Bytes {
     let allowance = 1 + i % 3;
-    let (mut drawn, mut lists) = self::drawn(random, pass, i);
+    let (mut drawn, mut lists) = drawn_for(form, random, pass, i);
     let mut middle = drawn.steps(0..allowance);
     while middle == drawn.planes || middle == drawn.unbroken() {
-        (drawn, lists) = self::drawn(random, pass, i);
+        (drawn, lists) = drawn_for(form, random, pass, i);
         middle = drawn.steps(0..allowance);
     }
-    let (layout, whole) = (drawn.layout, drawn.unbroken());
+    let layout = drawn.layout;
+    let left = |planes: Planes| if form.skips(&drawn) { drawn.planes.clone() } else { planes };
+    let (middle, whole) = (left(middle), left(drawn.unbroken()));
     let [luma, chroma] = rules::final_rows(&layout, allowance).expect("a start in the grid");
     for (p, rows) in [luma, chroma, chroma].into_iter().enumerate() {
         let last = rows * layout.stride(p);
@@ -144,7 +183,7 @@ pub fn boundary_lists(random: &mut Random) -> Lists {
 }
 
 /// Calls on the program's own stripes that leave them: refused ones, those that do no macroblock, and levels of 0.
-fn idle(random: &mut Random, pass: Pass) -> Vec<Bytes> {
+fn idle(form: Form, random: &mut Random, pass: Pass) -> Vec<Bytes> {
     let mut kept = Kept::new(&[0, 1, 2, 3, 5, 6, 7]);
     while kept.wants() {
         let (layout, lists) = (boundary(random), boundary_lists(random));
@@ -153,7 +192,7 @@ fn idle(random: &mut Random, pass: Pass) -> Vec<Bytes> {
         let bad = lists.bad(pass);
         let answer = picture::rule(&layout, bad, start, allowance);
         let records = if bad { Records::new() } else { lists.records(pass) };
-        if leaves_stripes(pass, layout, records, config, answer) {
+        if leaves_stripes(form, pass, layout, records, config, answer) {
             let head = Bytes::default().place(&layout, start, allowance).settings(&config);
             kept.offer(answer, lists.0.iter().fold(head, |head, list| head.bytes(list)).answer(answer));
         }
@@ -171,6 +210,7 @@ fn quiet(random: &mut Random) -> oracle::FrameFilterConfig {
 }
 
 fn leaves_stripes(
+    form: Form,
     pass: Pass,
     layout: Layout,
     records: Records,
@@ -178,7 +218,7 @@ fn leaves_stripes(
     answer: Answer,
 ) -> bool {
     let stripes = picture::stripes(LENGTHS);
-    expected(&Picture { pass, layout, planes: stripes.clone(), records, config }, answer) == stripes
+    expected(form, &Picture { pass, layout, planes: stripes.clone(), records, config }, answer) == stripes
 }
 
 /// Records of each answer, as many of one as of another.
@@ -247,28 +287,32 @@ fn telling(i: usize) -> oracle::FrameFilterConfig {
         .with_split_mv_mode_delta(15)
 }
 
-/// The next four records of the list.
-fn over_records(random: &mut Random, pass: Pass, i: usize) -> Bytes {
+/// The next four records of the list. Every third frame call has header level 0.
+fn over_records(form: Form, random: &mut Random, pass: Pass, i: usize) -> Bytes {
     let layout = picture::layout(random, i);
     let (records, bytes) = record_list(4 * i);
-    let config = telling(i);
+    let mut config = telling(i);
+    if form == Form::Frame && i.is_multiple_of(3) {
+        config.loop_filter_level = 0;
+    }
     let planes_before = picture::telling_planes(random, &layout);
     let drawn = Picture { pass, layout, planes: planes_before, records, config };
     let (start, allowance) = if i % 6 == 5 { (1, 2) } else { (0, usize::MAX) };
     let answer = picture::rule(&layout, false, start, allowance);
-    let after = expected(&drawn, answer);
+    let after = expected(form, &drawn, answer);
+    assert!(!form.skips(&drawn) || drawn.unbroken() != drawn.planes, "the pass changes what the frame call leaves");
     let head = Bytes::default().place(&layout, start, allowance).settings(&config).bytes(&bytes).answer(answer);
     planes(planes(head, &drawn.planes), &after)
 }
 
-fn idle_records(random: &mut Random, pass: Pass) -> Vec<Bytes> {
+fn idle_records(form: Form, random: &mut Random, pass: Pass) -> Vec<Bytes> {
     let mut kept = Kept::new(&[0, 1, 2, 3, 5, 7]);
     while kept.wants() {
         let (layout, config) = (boundary(random), quiet(random));
         let (start, allowance) = boundary_start(random);
         let (records, bytes) = record_list(random.below(840));
         let answer = picture::rule(&layout, false, start, allowance);
-        if leaves_stripes(pass, layout, records, config, answer) {
+        if leaves_stripes(form, pass, layout, records, config, answer) {
             let head = Bytes::default().place(&layout, start, allowance).settings(&config);
             kept.offer(answer, head.bytes(&bytes).answer(answer));
         }

@@ -2,8 +2,9 @@
 //! over key or inter frames and for a pair or a level, and the sum.
 
 use crate::Proof;
-use crate::call::{ALIVE, Call, OWNED, RESULT, RETURNED, owned};
-use crate::context::Context;
+use crate::call::{Call, EXIT, owned};
+use crate::callee::{Callee, INNER};
+use crate::context::{ALIVE, Context, OWNED, RESULT, RETURNED};
 use crate::params::Kind::{Given, Number, Plain, Read, ReadDeclared, Source};
 use crate::params::{Kind, Param, params};
 use crate::text::{Values, fill, joined, list, product_to, tuple, tuple_to};
@@ -149,8 +150,8 @@ fn walk(of: Of) -> Proof {
     let call = Call {
         outer: ["source", ".borrowed", &outer],
         inner: [inner_crate, inner_path, &inner],
-        answer: ["x", "w"],
-        answers: answer,
+        callee: Callee { answers: answer, ..INNER },
+        exit: EXIT,
         locals: 1 + params.len() + 2 * given + FIELDS.len(),
         params,
     };
@@ -174,7 +175,7 @@ fn walk(of: Of) -> Proof {
         ("callee_rows", list(handed.iter().map(Param::row))),
         ("apart", apart(&call, before)),
         ("said", call.says(of.said("x", "sourceIn d"))),
-        ("exits", call.exits([true, true])),
+        ("exits", call.exits("e", [true, false, true])),
     ]);
     Proof { path: format!("crates/source/proofs/borrowed/{outer}/Proof.antt"), text: fill(TEMPLATE, &values) }
 }
@@ -191,10 +192,7 @@ fn apart(call: &Call, before: &[Param]) -> String {
     at.say(format!("qed W ({} ∷ ‵ Own ∷ []) ∵", call.alive()));
     at.take(&[OWNED]);
     at.line();
-    for param in &call.params {
-        at.split("fsplit", OWNED, [owned(param), OWNED]);
-        at.take(&[OWNED]);
-    }
+    call.opens(&mut at);
     at.drop(OWNED);
     at.note("the record first, then what stands before it, from the last on; it is opened");
     at.turn(&[("parameter", before.len())], &[OWNED]);
@@ -226,7 +224,7 @@ fn steps(call: &Call, before: usize) -> String {
         at.line();
         handed.push(first + field);
     }
-    call.calls_apart(&mut at, &handed);
+    call.calls_apart(&mut at, ["apart", "to", "cargs"], &handed);
     let lists = if call.given().is_empty() { "" } else { ", at some last lists" };
     at.note(&format!("what the callee ensures{lists}"));
     call.hears(&mut at, "κs", "cargs", handed.len());

@@ -1,8 +1,9 @@
 //! What all walks have in common of a function that prepares a call and answers what the callee answers.
 
-use crate::context::{CELL, Context, Held, locals};
-use crate::params::{Kind, Param, binders, lifetimes, values};
-use crate::text::{Values, alive, component, fill, joined, list, product, sub, subs, tuple};
+use crate::callee::Callee;
+use crate::context::{ALIVE, CELL, Context, ENSURED, ENTRY, Held, OWNED, PRE, RESULT, locals};
+use crate::params::{Kind, Param, binders, lifetime_values, lifetimes, row_values, values};
+use crate::text::{Values, alive, component, components, fill, joined, list, product, sub, tuple};
 
 const NAMES: &str = include_str!("../templates/names.txt");
 const CONTRACT: &str = include_str!("../templates/contract.txt");
@@ -16,14 +17,6 @@ const WALK: &str = include_str!("../templates/walk.txt");
 /// The last lists of the slices that are given up, and that they are as long as the first.
 const LASTS: [[&str; 2]; 3] = [["l", "el"], ["m", "em"], ["k", "ek"]];
 
-pub const ENTRY: Held = ("entry", 0);
-pub const ALIVE: Held = ("alive", 0);
-pub const OWNED: Held = ("owned", 0);
-pub const PRE: Held = ("pre", 0);
-pub const RESULT: Held = ("result", 0);
-/// What lives and the result, once the callee has returned.
-pub const RETURNED: Held = ("returned", 0);
-pub const ENSURED: Held = ("ensured", 0);
 const FACT: Held = ("fact", 0);
 
 /// What a parameter owns.
@@ -41,17 +34,39 @@ pub struct Call<'a> {
     /// Crate, path in it, and name of the walked function and of the callee.
     pub outer: [&'a str; 3],
     pub inner: [&'a str; 3],
-    /// Names of the answer and of its machine value.
-    pub answer: [&'static str; 2],
-    /// The type of the answer.
-    pub answers: &'static str,
+    pub callee: Callee,
+    pub exit: Exit,
     /// How many locals the function has.
     pub locals: usize,
 }
 
+/// The exit of the walked function, in the words of the proof.
+pub struct Exit {
+    /// The clauses of the walked function, and its arguments and their machine values.
+    pub clauses: &'static str,
+    pub passed: &'static str,
+    /// What `Said` and `exits` are applied to before the answer.
+    pub bound: &'static [&'static str],
+    /// What is known of the answer's machine value.
+    pub is: &'static str,
+}
+
+/// The exit of the proofs that have the template `walk.txt`.
+pub const EXIT: Exit = Exit { clauses: "outer.clauses 𝓤 H A mem run", passed: "a, vals", bound: &[], is: "is" };
+
 /// A name as the prover writes it.
 fn hyphened(name: &str) -> String {
     name.replace('_', "-")
+}
+
+/// The types, names and machine values of what is passed.
+pub fn argument_values(params: &[Param]) -> Values {
+    vec![
+        ("Args", product(params.iter().map(Param::ty))),
+        ("a", tuple(params.iter().map(|param| param.name.into()))),
+        ("Vals", product(params.iter().map(|_| String::from("List Val")))),
+        ("vals", tuple(params.iter().map(|param| format!("{} ∷ []", param.value)))),
+    ]
 }
 
 impl Call<'_> {
@@ -78,66 +93,59 @@ impl Call<'_> {
 
     // ---- what stands before the walk
 
-    /// The pieces that all these proofs have.
-    pub fn shared(&self, steps: String) -> Values {
-        let Call { params, .. } = self;
-        let each = |text: fn(&Param) -> String| params.iter().map(text);
-        let numbers = || params.iter().filter(|param| param.kind == Kind::Number);
-        let others = || params.iter().filter(|param| param.kind != Kind::Number);
-        let lifetimes = self.lifetimes();
-        let kappas = || (0..lifetimes).map(|number| sub("κ", number));
-        let shares = || (0..lifetimes).map(|number| sub("q", number));
-
+    /// The modules of the walked function and of the callee.
+    pub fn modules(&self) -> [String; 2] {
         let [outer_crate, outer_path, outer_name] = self.outer;
         let [inner_crate, inner_path, inner_name] = self.inner;
         let own = |name: &str| format!("Rattle.{name}.proofs");
         let inner_root =
             if inner_crate == outer_crate { own(inner_crate) } else { format!("Rattle.{inner_crate}.proofs") };
-        let outer = format!("{}{outer_path}.{outer_name}", own(outer_crate));
-        let inner = format!("{inner_root}{inner_path}.{inner_name}");
-        let called = hyphened(&format!("{inner_crate}{inner_path}·{inner_name}").replace('.', "·"));
+        [format!("{}{outer_path}.{outer_name}", own(outer_crate)), format!("{inner_root}{inner_path}.{inner_name}")]
+    }
 
-        let fits = joined(numbers(), "", |param| format!(" ({} : {})", param.witness, param.known()));
-        let components =
-            |tuple: &'static str, count| (0..count).map(move |place| format!("({})", component(tuple, place)));
+    /// The shares of the lifetimes have this type.
+    pub fn share_types(&self) -> String {
+        product((0..self.lifetimes()).map(|_| String::from("Share")))
+    }
+
+    fn numbers(&self) -> impl Iterator<Item = &Param> {
+        self.params.iter().filter(|param| param.kind == Kind::Number)
+    }
+
+    /// The pieces that all these proofs have.
+    pub fn shared(&self, steps: String) -> Values {
+        let [outer, inner] = self.modules();
+        let fits = joined(self.numbers(), "", |param| format!(" ({} : {})", param.witness, param.known()));
+        let mut bound = lifetime_values(&self.params);
+        bound.extend([("binders", binders(&self.params) + &fits), ("Qs", self.share_types())]);
+        vec![
+            ("names", fill(NAMES, &vec![("inner", inner), ("outer", outer)])),
+            ("contract", fill(CONTRACT, &vec![("stayed", tuple(self.params.iter().map(Param::stays)))])),
+            ("bound", fill(BOUND, &bound)),
+            ("arguments", fill(ARGUMENTS, &argument_values(&self.params))),
+            ("walk", fill(WALK, &self.walk_values(steps))),
+        ]
+    }
+
+    fn walk_values(&self, steps: String) -> Values {
+        let Call { params, .. } = self;
+        let others = || params.iter().filter(|param| param.kind != Kind::Number);
+        let lifetimes = self.lifetimes();
         let bound = components("κs", lifetimes).chain(components("qs", lifetimes)).chain(components("a", params.len()));
-        let bound = bound.chain(numbers().map(Param::witnessed));
-
-        let bound_values = vec![
-            ("kappas", subs("κ", 0..lifetimes)),
-            ("shares", subs("q", 0..lifetimes)),
-            ("binders", binders(params) + &fits),
-            ("lifetimes", lifetimes.to_string()),
-            ("κs", tuple(kappas())),
-            ("Qs", product(kappas().map(|_| String::from("Share")))),
-            ("qs", tuple(shares())),
-        ];
-        let argument_values = vec![
-            ("Args", product(each(Param::ty))),
-            ("a", tuple(each(|param| param.name.into()))),
-            ("Vals", product(each(|_| String::from("List Val")))),
-            ("vals", tuple(each(|param| format!("{} ∷ []", param.value)))),
-        ];
-        let walk_values = vec![
+        let bound = bound.chain(self.numbers().map(Param::witnessed));
+        let [inner_crate, inner_path, inner_name] = self.inner;
+        let mut walk_values = row_values(params);
+        walk_values.extend([
             ("premises", joined(others(), " → ", Param::known)),
             ("values", values(params)),
             ("witnesses", joined(others(), " ", |param| param.witness.clone())),
             ("steps", steps),
-            ("slots", tuple(each(Param::vals))),
-            ("tells", tuple(each(Param::tells))),
             ("bound", joined(bound, " ", |component| component)),
             ("witnessed", joined(others(), " ", Param::witnessed)),
-            ("goes", tuple(params.iter().map(|param| param.goes(lifetimes)))),
-            ("outer", hyphened(outer_name)),
-            ("called", called),
-        ];
-        vec![
-            ("names", fill(NAMES, &vec![("inner", inner), ("outer", outer)])),
-            ("contract", fill(CONTRACT, &vec![("stayed", tuple(each(Param::stays)))])),
-            ("bound", fill(BOUND, &bound_values)),
-            ("arguments", fill(ARGUMENTS, &argument_values)),
-            ("walk", fill(WALK, &walk_values)),
-        ]
+            ("outer", hyphened(self.outer[2])),
+            ("called", hyphened(&format!("{inner_crate}{inner_path}·{inner_name}").replace('.', "·"))),
+        ]);
+        walk_values
     }
 
     /// The record of the source, of the declared lifetime.
@@ -150,8 +158,7 @@ impl Call<'_> {
 
     /// What is left at the exit.
     fn left(&self) -> String {
-        let [answer, value] = self.answer;
-        let result = [format!("‵ (S.the-row .own {answer} ({value} ∷ []))"), self.alive()];
+        let result = [self.callee.owns(), self.alive()];
         let lasts = self
             .given()
             .into_iter()
@@ -161,7 +168,7 @@ impl Call<'_> {
     }
 
     /// The steps from what is left to what is said at the exit. Only what was given up is had of the parameters.
-    fn ends(&self, breaks: bool) -> String {
+    fn ends(&self, said: &str, [says, joins]: [bool; 2]) -> String {
         let of_given = |of: usize| {
             let text = move |param: &Param| {
                 let given = self.given().into_iter().find(|(given, _)| given.place == param.place);
@@ -169,21 +176,20 @@ impl Call<'_> {
             };
             tuple(self.params.iter().map(text))
         };
-        let [answer, value] = self.answer;
-        let clauses = "outer.ended stayed (outer.clauses 𝓤 H A mem run)";
-        let ends = format!("ends-at 𝓤 H A {clauses} W ((κs, qs, tt, a, vals), tt)");
+        let (Exit { clauses, passed, .. }, [answer, value]) = (&self.exit, self.callee.answer);
+        let ends = format!("ends-at 𝓤 H A outer.ended stayed ({clauses}) W ((κs, qs, tt, {passed}), tt)");
 
         let count = self.given().len();
         let mut at = Context::new([RESULT, ALIVE].into_iter().chain((0..count).rev().map(last)));
-        at.say(format!("suffices ! _ ({ends} {value} {answer} {} {}) $ says ! e $", of_given(0), of_given(1)));
+        at.say(format!("suffices ! _ ({ends} {value} {answer} {} {}) $", of_given(0), of_given(1)));
+        at.line_if(says);
+        at.say(format!("says ! {said} $"));
         at.line();
         at.take(&[ALIVE]);
         at.turn(&[ALIVE], &[]);
         at.say("frame ! $");
         at.nothing(OWNED);
-        if breaks {
-            at.line();
-        }
+        at.line_if(joins);
         let mut given = count;
         for param in self.params.iter().rev() {
             if param.kind == Kind::Given {
@@ -206,25 +212,25 @@ impl Call<'_> {
 
     /// The definition of what is said at the exit.
     pub fn says(&self, said: String) -> String {
-        let [x, _] = self.answer.map(String::from);
-        fill(SAID, &vec![("answer", self.answers.into()), ("lists", self.lists()), ("x", x), ("said", said)])
+        let Callee { answers, answer: [x, _], .. } = self.callee;
+        fill(SAID, &vec![("answer", answers.into()), ("lists", self.lists()), ("x", x.into()), ("said", said)])
     }
 
-    /// What the exit owes, as a lemma: whether a new line stands before what it concludes, and in its steps before what
-    /// is joined.
-    pub fn exits(&self, [concludes, joins]: [bool; 2]) -> String {
+    /// What the exit owes, as a lemma. What it says follows from `e`, what the callee says. A new line may stand before
+    /// what the lemma concludes, and in its steps before what is said and before what is joined.
+    pub fn exits(&self, said: &str, [concludes, says, joins]: [bool; 3]) -> String {
         let length =
             |(param, [last, _]): (&Param, [&str; 2])| format!(" → length {last} ≡ length (now {})", param.name);
-        let [x, w] = self.answer.map(String::from);
+        let [x, w] = self.callee.answer.map(String::from);
         let values = vec![
             ("x", x),
             ("w", w),
-            ("answer", self.answers.into()),
+            ("answer", self.callee.answers.into()),
             ("lists", self.lists()),
             ("lengths", joined(self.given(), "", length)),
             ("breaks", String::from(if concludes { "yes" } else { "" })),
             ("left", self.left()),
-            ("ends", self.ends(joins)),
+            ("ends", self.ends(said, [says, joins])),
         ];
         fill(EXITS, &values)
     }
@@ -265,35 +271,23 @@ impl Call<'_> {
         next
     }
 
-    /// What is held at the entry is turned into what the callee asks; it is called on these locals and returns.
-    pub fn calls_apart(&self, at: &mut Context, locals: &[usize]) {
+    /// What the parameters own is taken apart: the last stands first.
+    pub fn opens(&self, at: &mut Context) {
+        for param in &self.params {
+            at.split("fsplit", OWNED, [owned(param), OWNED]);
+            at.take(&[OWNED]);
+        }
+    }
+
+    /// What is held at the entry is turned into what the callee asks, by a lemma; it is called on these locals and
+    /// returns. `to` is the ghost value of the call.
+    pub fn calls_apart(&self, at: &mut Context, [lemma, to, arguments]: [&str; 3], locals: &[usize]) {
         at.take(&[ENTRY]);
         at.turn(&[ENTRY], &[PRE]);
-        at.say("use1 W (raw (Inner 𝓤 H A mem run .pre to)) apart $");
+        at.say(format!("use1 W (raw ({} .pre {to})) {lemma} $", self.callee.contract));
         at.line();
-        self.calls(at, "to", locals);
-        self.returns(at, &self.alive(), "κs", "cargs");
-    }
-
-    /// The callee is called on these locals. `to` is the ghost value of the call.
-    pub fn calls(&self, at: &mut Context, to: &str, locals: &[usize]) {
-        let operands = at.operands(locals);
-        at.turn(&[PRE], &[]);
-        at.open(format!("calls-at ! fm (Inner 𝓤 H A mem run) known {to} {operands} (λ {}.", self.answer[1]));
-        at.line();
-    }
-
-    /// The callee returns: what it ensures, and what lives with the result, are held.
-    pub fn returns(&self, at: &mut Context, alive: &str, lifetimes: &str, arguments: &str) {
-        let (Call { answers, .. }, [answer, value]) = (self, self.answer);
-        let ensured = "ensured 𝓤 H A inner.ended (inner.clauses 𝓤 H A mem run)";
-        let ensured = format!("raw ({ensured} {lifetimes} {arguments} tt {answer})");
-        let held = format!("({alive} ⊛ ‵ (S.the-row .own {answer} ({value} ∷ []))) ⊛ {ensured}");
-        at.turn(&[], &[RETURNED, ENSURED]);
-        at.open(format!(
-            "use1 W (later (some (λ ({answer} : {answers}). {held}))) (id⊢ 𝓤 _) $ await ! tt $ pick ! (λ {answer}."
-        ));
-        at.line();
+        self.callee.calls(at, to, locals);
+        self.callee.returns(at, &self.alive(), "κs", arguments);
     }
 
     /// What was ensured is said, at some last lists of the callee's parameters.
@@ -303,7 +297,8 @@ impl Call<'_> {
             String::from(if given { "List ℕ" } else { "Unit {0}" })
         };
         let said = self.said();
-        let lasts = format!("‵ (lasts inner.ended {lifetimes} {arguments} z) ⊛ raw (fact 𝓤 ({said}))");
+        let module = self.callee.module;
+        let lasts = format!("‵ (lasts {module}.ended {lifetimes} {arguments} z) ⊛ raw (fact 𝓤 ({said}))");
         at.say("split ! $");
         at.take(&[ENSURED]);
         at.turn(&[ENSURED], &[OWNED, FACT]);
@@ -317,6 +312,11 @@ impl Call<'_> {
         at.turn(&[FACT], &[]);
         at.open(format!("heard ! ({said}) (λ e."));
         at.line();
+        self.had_at_last(at);
+    }
+
+    /// Of what the callee's parameters own at last, the last lists of the slices that are given up are had.
+    fn had_at_last(&self, at: &mut Context) {
         let mut given = self.given().into_iter().enumerate().peekable();
         for place in 0.. {
             let Some((number, (param, [_, length]))) = given.peek() else { break };
@@ -340,7 +340,12 @@ impl Call<'_> {
 
     /// What the callee says, of the last lists in `z`.
     pub fn said(&self) -> String {
-        format!("Said {}{}", self.answer[0], self.last_lists())
+        format!("{} {}{}", self.bound("Said"), self.callee.answer[0], self.last_lists())
+    }
+
+    /// `Said` or `exits`, applied to what comes before the answer.
+    fn bound(&self, of: &'static str) -> String {
+        joined([&of].into_iter().chain(self.exit.bound), " ", |bound| String::from(*bound))
     }
 
     fn last_lists(&self) -> String {
@@ -349,11 +354,10 @@ impl Call<'_> {
 
     /// The result is looked at, and stands in local 0; all locals are freed, and the exit is reached.
     pub fn leaves(&self, mut at: Context) -> String {
-        let [answer, value] = self.answer;
-        let row = "S.the-row (Is S.the-row) (shows 𝓤 H A S.the-row)";
-        at.open(format!("peeks ! {row} {answer} ({value} ∷ []) (λ is."));
+        let (Callee { letter, answer: [answer, value], .. }, is) = (&self.callee, self.exit.is);
+        self.callee.peeks(&mut at, is);
         at.line();
-        let typed = format!("(EL.lawful S.the-type S′.the-laws 𝓤 H A W tt .typed {answer} _ is .0)");
+        let typed = format!("(EL.lawful {letter}.the-type {letter}′.the-laws 𝓤 H A W tt .typed {answer} _ {is} .0)");
         at.say(format!("land ! {} $", at.init(0, &typed)));
         at.line();
         at.say(format!("returns ! {} $", at.look(0)));
@@ -363,7 +367,7 @@ impl Call<'_> {
         at.say("free0 ! $");
         at.line();
         let lengths = joined(self.given(), "", |(_, [_, length])| format!(" {length}"));
-        at.close(&format!("by ! (exits {answer} {value}{} e{lengths})", self.last_lists()));
+        at.close(&format!("by ! ({} {answer} {value}{} e{lengths})", self.bound("exits"), self.last_lists()));
         let count = self.given().len();
         at.turn(&[RESULT, ALIVE], &[]);
         at.turn(&(0..count).rev().map(last).collect::<Vec<_>>(), &[]);

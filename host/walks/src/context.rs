@@ -1,7 +1,7 @@
 //! What is held at a point of a walk, in its order, and the steps so far. A step names what it is about; the place
 //! where that stands is counted here.
 
-use crate::text::{joined, list};
+use crate::text::{joined, list, sub};
 
 /// Something held: what it is, and which of them.
 pub type Held = (&'static str, usize);
@@ -10,6 +10,18 @@ pub type Held = (&'static str, usize);
 pub const CELL: &str = "cell";
 /// The permission to free the cell of a local.
 const DIES: &str = "dies";
+
+/// All that is held at the entry, beside the locals.
+pub const ENTRY: Held = ("entry", 0);
+/// The lifetimes that live, and what is owned.
+pub const ALIVE: Held = ("alive", 0);
+pub const OWNED: Held = ("owned", 0);
+/// What a callee asks.
+pub const PRE: Held = ("pre", 0);
+/// What lives and the result, once the callee has returned, and what it ensures.
+pub const RETURNED: Held = ("returned", 0);
+pub const ENSURED: Held = ("ensured", 0);
+pub const RESULT: Held = ("result", 0);
 
 /// What is held of that many locals: the last stands first.
 pub fn locals(count: usize) -> Vec<Held> {
@@ -63,6 +75,12 @@ impl Context {
     /// What follows stands on a line of its own.
     pub fn line(&mut self) {
         self.steps.push(Step::Break);
+    }
+
+    pub fn line_if(&mut self, breaks: bool) {
+        if breaks {
+            self.line();
+        }
     }
 
     pub fn note(&mut self, note: &str) {
@@ -173,6 +191,12 @@ impl Context {
 
     pub fn assign(&mut self, value: &str, local: usize, typed: &str) {
         self.say(format!("assigns ! {value} {} $", self.init(local, typed)));
+    }
+
+    /// The value of a local of this type is written otherwise: as what is said of the binder's name, by an equality.
+    pub fn rewrite(&mut self, local: usize, ty: &str, [binder, value, equal]: [&str; 3]) {
+        let (place, name) = (self.place((CELL, local)), sub("l", local));
+        self.say(format!("rewrite ! {place} (λ ({binder}). ‵ (fat fullShare {ty} {name} 0 {value})) {equal} refl $"));
     }
 
     /// The locals that are passed, in their order.

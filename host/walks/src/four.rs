@@ -1,11 +1,13 @@
-//! `key_four` and `inter_four` of `crates/replay`, which lend an array of four records as a slice to a pass.
+//! The functions of `crates/replay` that lend an array of four records as a slice: `key_four` and `inter_four` to a
+//! pass, `key_frame_four` and `inter_frame_four` to a frame call.
 
 use crate::Proof;
-use crate::call::{ALIVE, Call, ENTRY, OWNED, PRE, RESULT, RETURNED, last, owned};
-use crate::context::{CELL, Held, locals};
+use crate::call::{Call, EXIT, last, owned};
+use crate::callee::INNER;
+use crate::context::{ALIVE, CELL, ENTRY, Held, OWNED, PRE, RESULT, RETURNED, locals};
 use crate::params::Kind::{Four, Given, Number, Plain, Records};
 use crate::params::{Param, params};
-use crate::text::{alive, fill, list, product, sub, tuple};
+use crate::text::{Values, alive, fill, list, product, sub, tuple};
 
 const TEMPLATE: &str = include_str!("../templates/four.txt");
 
@@ -16,8 +18,12 @@ const LENDER: Held = ("lender", 0);
 /// The slice that the callee gets.
 const SLICE: Held = ("slice", 0);
 
-fn walk(frames: &'static str, outer: &'static str, inner: &'static str) -> Proof {
-    let params = params(&[
+/// Crate and module of the passes and of the frame calls over records.
+const PASSES: [&str; 2] = ["frame", ".record_pass"];
+const FRAME_CALLS: [&str; 2] = ["frame_calls", ".record_frame_call"];
+
+fn parameters() -> Vec<Param> {
+    params(&[
         ("y", Given),
         ("u", Given),
         ("v", Given),
@@ -26,20 +32,56 @@ fn walk(frames: &'static str, outer: &'static str, inner: &'static str) -> Proof
         ("f", Plain("FrameFilterConfig", "F")),
         ("st", Number),
         ("al", Number),
-    ]);
+    ])
+}
+
+/// What the proof uses of frame calls, and what is said at the exit.
+fn says(call: &Call, frames: &str) -> Values {
+    let records = format!("{frames}RecordsCall (planesOf (now y) (now u) (now v)) p xs f st al");
+    let (skip, passed) = if call.inner.starts_with(&FRAME_CALLS) {
+        let skip = format!("use Rattle.frame_calls.specs.Skip.{{{frames}Frame, frameCall}}\n");
+        (skip, format!("{frames}Frame (frameCall {frames}Pass ({records}))"))
+    } else {
+        (String::new(), format!("{frames}Pass ({records})"))
+    };
+    vec![("skip", skip), ("said", call.says(format!("Passed {passed} x (planesOf l m k)")))]
+}
+
+fn walk(
+    frames: &'static str,
+    outer: &'static str,
+    [inner_crate, path]: [&'static str; 2],
+    inner: &'static str,
+) -> Proof {
+    let params = parameters();
     let given = params.iter().filter(|param| param.kind == Given).count();
     let call = Call {
         outer: ["replay", "", outer],
-        inner: ["frame", ".record_pass", inner],
-        answer: ["x", "w"],
-        answers: "PassAnswer",
+        inner: [inner_crate, path, inner],
+        callee: INNER,
+        exit: EXIT,
         // the result, the parameters, a copy of the array, and pointer and slice of each plane and of the copy
         locals: 1 + params.len() + 1 + 2 * given + 2,
         params,
     };
     let copy = sub("l", call.params.len() + 1);
+    let mut values = call.shared(steps(&call, &copy));
+    values.extend(lent_values(&call, &copy));
+    values.extend(says(&call, frames));
+    values.extend([
+        ("frames", frames.into()),
+        ("outer", outer.into()),
+        ("inner", inner.into()),
+        ("rows", call.rows()),
+        ("copy", copy),
+        ("exits", call.exits("e", [true, false, false])),
+    ]);
+    Proof { path: format!("crates/replay/proofs/{outer}/Proof.antt"), text: fill(TEMPLATE, &values) }
+}
+
+/// What the callee is passed: it has a slice where the walked function has the array.
+fn lent_values(call: &Call, copy: &str) -> Values {
     let lifetimes = call.lifetimes();
-    // the callee has a slice where the walked function has the array
     let lent = |param: &Param| match param.kind {
         Four => Param { name: "lent", kind: Records, value: format!("sliceVal ({copy}, 0) 4"), ..param.clone() },
         _ => param.clone(),
@@ -47,12 +89,7 @@ fn walk(frames: &'static str, outer: &'static str, inner: &'static str) -> Proof
     let handed: Vec<Param> = call.params.iter().map(lent).collect();
     let row = |param: &Param| if param.kind == Records { param.row_at("β") } else { param.row() };
     let tokens = || call.tokens().into_iter().chain([(String::from("β"), String::from("fullShare"))]);
-
-    let mut values = call.shared(steps(&call, &copy));
-    values.extend([
-        ("frames", frames.into()),
-        ("inner", inner.into()),
-        ("rows", call.rows()),
+    vec![
         ("Cargs", product(handed.iter().map(Param::ty))),
         ("cargs", tuple(handed.iter().map(|param| param.name.into()))),
         ("lifetimes", (lifetimes + 1).to_string()),
@@ -61,11 +98,8 @@ fn walk(frames: &'static str, outer: &'static str, inner: &'static str) -> Proof
         ("passed", tuple(handed.iter().map(|param| format!("{} ∷ []", param.value)))),
         ("alive", alive(tokens())),
         ("callee_rows", list(handed.iter().map(row))),
-        ("copy", copy),
         ("lent", lifetimes.to_string()),
-        ("exits", call.exits([true, false])),
-    ]);
-    Proof { path: format!("crates/replay/proofs/{outer}/Proof.antt"), text: fill(TEMPLATE, &values) }
+    ]
 }
 
 fn steps(call: &Call, copy: &str) -> String {
@@ -79,13 +113,8 @@ fn steps(call: &Call, copy: &str) -> String {
     at.assign(&format!("(of-opd ! {})", at.var(array.place + 1)), copied, &format!("({})", array.typed()));
     at.line();
     at.note("each plane is lent on");
-    let mut next = copied + 1;
     let mut handed: Vec<usize> = (1..=call.params.len()).collect();
-    for (param, _) in call.given() {
-        at.lend(param.place + 1, next, &param.witness);
-        handed[param.place] = next + 1;
-        next += 2;
-    }
+    let next = call.lends(&mut at, copied + 1, &mut handed);
     at.note("the records are lent");
     at.assign("(addr ! (from ! (stop !)))", next, "(tt, tt)");
     at.line();
@@ -98,10 +127,7 @@ fn steps(call: &Call, copy: &str) -> String {
     at.turn(&[ENTRY], &[ALIVE, OWNED]);
     at.say(format!("use1 W ({} ⊛ ‵ Own) (id⊢ 𝓤 _) $ split ! $", call.alive()));
     at.take(&[OWNED]);
-    for param in &call.params {
-        at.split("fsplit", OWNED, [owned(param), OWNED]);
-        at.take(&[OWNED]);
-    }
+    call.opens(&mut at);
     at.drop(OWNED);
     let last_local = format!("_{}", next + 1);
     at.note(&format!("[al; st; f; xs; p; v; u; y; tokens; {last_local}; …]"));
@@ -138,10 +164,10 @@ fn steps(call: &Call, copy: &str) -> String {
     let bound = format!("(β ∷ []) γ {copy}");
     at.say(format!("use2 W (raw (Inner 𝓤 H A mem run .pre (to {bound}))) (asked {bound}) $"));
     at.line();
-    call.calls(&mut at, &format!("(to {bound})"), &handed);
+    call.callee.calls(&mut at, &format!("(to {bound})"), &handed);
     let tokens = call.tokens().into_iter().chain([(String::from("(β ∷ [])"), String::from("fullShare"))]);
     let (kappas, arguments) = (format!("(κs′ {bound})"), format!("(cargs {bound})"));
-    call.returns(&mut at, &alive(tokens), &kappas, &arguments);
+    call.callee.returns(&mut at, &alive(tokens), &kappas, &arguments);
     call.hears(&mut at, &kappas, &arguments, handed.len());
     let held = format!("[v, u and y at their last; the tokens and the result; the lender's part; {last_local}; …]");
     at.note(&format!("{held}: β ends, and the records are back"));
@@ -171,5 +197,10 @@ fn steps(call: &Call, copy: &str) -> String {
 }
 
 pub fn proofs() -> Vec<Proof> {
-    vec![walk("key", "key_four", "filter_frame_records"), walk("inter", "inter_four", "filter_inter_frame_records")]
+    vec![
+        walk("key", "key_four", PASSES, "filter_frame_records"),
+        walk("inter", "inter_four", PASSES, "filter_inter_frame_records"),
+        walk("key", "key_frame_four", FRAME_CALLS, "loop_filter_frame_records"),
+        walk("inter", "inter_frame_four", FRAME_CALLS, "loop_filter_inter_frame_records"),
+    ]
 }

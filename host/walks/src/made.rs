@@ -3,8 +3,9 @@
 
 use crate::Proof;
 use crate::apart::{Choice, FIELDS, Frames, Of};
-use crate::call::{ALIVE, Call, ENSURED, OWNED, RESULT, RETURNED, owned};
-use crate::context::{Context, Held};
+use crate::call::{Call, EXIT, owned};
+use crate::callee::{Callee, INNER};
+use crate::context::{ALIVE, Context, Held, OWNED, RESULT, RETURNED};
 use crate::params::Kind::{Given, Number, Plain, Read, ReadDeclared, Source};
 use crate::params::{Param, params};
 use crate::text::{Values, fill, joined, list, product, tuple};
@@ -90,7 +91,7 @@ impl Made {
             ("record", self.record.into()),
             ("sum_says", says(sum)),
             ("search_says", says(search)),
-            ("exits", call.exits([search, search])),
+            ("exits", call.exits("e", [search, false, search])),
         ]);
         values
     }
@@ -102,8 +103,8 @@ impl Made {
         let call = Call {
             outer: ["source", ".borrowed", &outer],
             inner: ["source", ".borrowed", &inner],
-            answer: self.answer,
-            answers: self.of.answer()[0],
+            callee: Callee { answer: self.answer, answers: self.of.answer()[0], ..INNER },
+            exit: EXIT,
             // the result, the parameters, the record, pointer and slice of each plane that is lent on, the record's copy
             locals: 1 + params.len() + 1 + 2 * given + 1,
             params,
@@ -147,9 +148,7 @@ impl Made {
         at.say("use1 W (‵ Os) (own-shut 𝓤 H A W (D κs) (L κs) vd) $");
         at.nothing(OWNED);
         at.join("fjoin", FIELDS_OWN, OWNED);
-        if self.is_sum() {
-            at.line();
-        }
+        at.line_if(self.is_sum());
         for param in before.iter().rev() {
             at.join("fjoin", owned(param), OWNED);
         }
@@ -167,9 +166,9 @@ impl Made {
         });
         at.note(self.done);
         let handed = makes(call, &mut at);
-        call.calls_apart(&mut at, &handed);
+        call.calls_apart(&mut at, ["apart", "to", "cargs"], &handed);
         if self.is_sum() {
-            hears_alone(call, &mut at);
+            call.callee.hears(&mut at, &call.said(), ["said", "e"]);
         } else {
             at.note("what the callee ensures, at some last lists");
             call.hears(&mut at, "κs", "cargs", handed.len());
@@ -208,15 +207,6 @@ fn makes(call: &Call, at: &mut Context) -> Vec<usize> {
     at.line();
     handed.push(copied);
     handed
-}
-
-/// What was ensured is said, of the answer alone.
-fn hears_alone(call: &Call, at: &mut Context) {
-    at.say("split ! $");
-    at.take(&[ENSURED]);
-    at.turn(&[ENSURED], &[]);
-    let (said, [answer, _]) = (call.said(), call.answer);
-    at.open(format!("use1 W (raw (fact 𝓤 ({said}))) (said {answer}) $ heard ! ({said}) (λ e."));
 }
 
 pub fn proofs() -> Vec<Proof> {

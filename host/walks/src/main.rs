@@ -1,20 +1,24 @@
 //! Writes the proofs that walk a function's code and count, at every step, where what is held stands.
 //!
 //! The prover walks most functions itself. It does not where a struct holds references (the searches and sums over a
-//! record of the source in `crates/source`), where a list of structs is lent (`RecordWalk` of `crates/frame`, and
-//! `WalkEntry`, by which it enters its function), nor where an array of structs is lent as a slice (`key_four` and
-//! `inter_four` of `crates/replay`). There the walk is a proof of its own. It moves what is held by its number, and the
-//! numbers follow from the parameters; so the parameters are listed here, and the numbers are counted. What is the same
-//! in all walks of a form stands in `templates`; a name in ⟦ ⟧ is replaced by what is made for it.
+//! record of the source in `crates/source`), where a list of structs is lent (`RecordWalk` of `crates/frame`, with
+//! `WalkEntry`, by which it enters its function, and `FrameWalk` of `crates/frame_calls`), nor where an array of
+//! structs is lent as a slice (`key_four`, `inter_four`, `key_frame_four` and `inter_frame_four` of `crates/replay`).
+//! There the walk is a proof of its own. It moves what is held by its number, and the numbers follow from the
+//! parameters; so the parameters are listed here, and the numbers are counted. What is the same in all walks of a form
+//! stands in `templates`; a name in ⟦ ⟧ is replaced by what is made for it.
 //!
 //! Without arguments it writes the proofs anew. With `--check` it makes them anew and compares them with the files.
 
 mod apart;
 mod call;
+mod callee;
 mod context;
 mod entry;
 mod four;
+mod frames;
 mod made;
+mod mir;
 mod params;
 mod records;
 mod text;
@@ -34,7 +38,7 @@ fn proofs() -> Vec<Proof> {
     proofs.extend(made::proofs());
     proofs.extend(four::proofs());
     let (walk, locals, params) = records::proof();
-    proofs.extend([entry::proof(locals, params), walk]);
+    proofs.extend([entry::proof(locals, params), walk, frames::proof()]);
     proofs
 }
 
@@ -148,13 +152,30 @@ mod tests {
     }
 
     #[test]
-    fn each_maker_of_a_record_counts_its_own_locals() {
-        // the result, the parameters, the record and its copy; of the search also pointer and slice of three planes
-        for (name, locals) in [("reconstruction_ssd_from", 1 + 11 + 2), ("select_filter_params_from", 1 + 18 + 2 + 6)] {
+    fn each_walk_counts_its_own_locals() {
+        // the result, the parameters and what is made or copied; but for the sum also pointer and slice of each plane
+        let walks = [
+            ("reconstruction_ssd_from", 1 + 11 + 2),
+            ("select_filter_params_from", 1 + 18 + 2 + 6),
+            ("FrameWalk", 1 + 8 + 1 + 6),
+            ("key_frame_four", 1 + 8 + 1 + 6 + 2),
+        ];
+        for (name, locals) in walks {
             let proof = proofs().into_iter().find(|proof| proof.path.contains(name)).expect("a proof");
             for step in ["alloc1 !", "forget !", "free1 ! $"] {
                 assert_eq!(proof.text.matches(step).count(), locals, "{step} in {name}");
             }
+        }
+    }
+
+    #[test]
+    fn a_frame_call_is_called_as_its_pass_is() {
+        let text = |name: &str| proofs().into_iter().find(|proof| proof.path.contains(name)).expect("a proof").text;
+        for (pass, frame_call) in [("key_four", "key_frame_four"), ("inter_four", "inter_frame_four")] {
+            let (pass, frame_call) = (text(pass), text(frame_call));
+            let walked = |text: &str| text.split("\n\n").find(|part| part.contains("    walk :")).map(String::from);
+            assert!(walked(&pass).is_some() && walked(&pass) == walked(&frame_call));
+            assert!(frame_call.contains("Frame (frameCall ") && !pass.contains("frameCall"));
         }
     }
 }

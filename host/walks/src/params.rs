@@ -1,7 +1,7 @@
 //! The parameters of a walked function, and what a walk says of each.
 
 use crate::context::slice_typed;
-use crate::text::{component, joined, list, sub};
+use crate::text::{Values, component, joined, list, parenthesized, sub, subs, tuple};
 
 #[derive(Clone, Copy, PartialEq)]
 pub enum Kind {
@@ -26,6 +26,12 @@ pub enum Kind {
 }
 
 use Kind::{Four, Given, Kept, Number, Plain, Read, ReadDeclared, Records, Source};
+
+impl Kind {
+    pub fn is_slice(self) -> bool {
+        matches!(self, Read | ReadDeclared | Given | Kept | Records)
+    }
+}
 
 #[derive(Clone)]
 pub struct Param {
@@ -126,6 +132,18 @@ impl Param {
         format!("goes-dropped {start} ({dropped}) yes (λ κs x f. refl)")
     }
 
+    /// What its value owns, which needs nothing. Of a slice the value is its length.
+    pub fn made(&self, value: &str) -> String {
+        match self.kind {
+            Plain(_, letter) => {
+                let makes = format!("(LL.makes {letter}.the-type {letter}′.the-plain 𝓤 H A)");
+                format!("owned ! {letter}.the-row (Is {letter}.the-row) {makes} {value} _ {} $ fjoin ! $", self.witness)
+            }
+            Number => number_made(value, &self.witness),
+            _ => number_made(&parenthesized(value), &format!("{} .0", self.witness)),
+        }
+    }
+
     pub fn vals(&self) -> String {
         match self.kind {
             Read | ReadDeclared | Given | Kept | Records => String::from("slice-vals"),
@@ -192,6 +210,34 @@ impl Param {
             Number => format!("tt, record {{ fits = {witness} }}"),
         }
     }
+}
+
+/// What a number owns, which needs nothing: that it fits is known.
+pub fn number_made(value: &str, fits: &str) -> String {
+    format!("owned ! usize (Is usize) (uint-makes 𝓤 H A W w64) {value} _ (refl, {fits}) $ fjoin ! $")
+}
+
+/// The lifetimes of the parameters and their shares.
+pub fn lifetime_values(params: &[Param]) -> Values {
+    let count = lifetimes(params);
+    let each = |letter| tuple((0..count).map(|number| sub(letter, number)));
+    vec![
+        ("kappas", subs("κ", 0..count)),
+        ("shares", subs("q", 0..count)),
+        ("lifetimes", count.to_string()),
+        ("κs", each("κ")),
+        ("qs", each("q")),
+    ]
+}
+
+/// What is known of each parameter's row: its machine values, that there are no others, and how it goes.
+pub fn row_values(params: &[Param]) -> Values {
+    let count = lifetimes(params);
+    vec![
+        ("slots", tuple(params.iter().map(Param::vals))),
+        ("tells", tuple(params.iter().map(Param::tells))),
+        ("goes", tuple(params.iter().map(|param| param.goes(count)))),
+    ]
 }
 
 /// What each parameter is, as a list of a proof.

@@ -2,10 +2,12 @@
 //! each record out of the list and hands it to the step, with the planes lent again for each call.
 
 use crate::Proof;
-use crate::context::{CELL, Context, Held, locals, slice_typed};
+use crate::callee::{Asked, Callee, OF_TABLES, asks};
+use crate::context::{ALIVE, CELL, Context, ENSURED, Held, OWNED, PRE, RESULT, RETURNED, locals, slice_typed};
+use crate::mir;
 use crate::params::Kind::{Kept, Number, Plain, Records};
-use crate::params::{Kind, Param, lifetimes, params};
-use crate::text::{Values, alive, component, fill, joined, list, product, sub, subs, tuple};
+use crate::params::{Param, lifetime_values, lifetimes, number_made, params, row_values};
+use crate::text::{Values, alive, component, components, fill, joined, list, parenthesized, product, sub, subs, tuple};
 
 const TEMPLATE: &str = include_str!("../templates/records.txt");
 
@@ -14,9 +16,6 @@ const PLANES: [&str; 3] = ["y", "u", "v"];
 /// How wide a line of steps is while another begins on it.
 const WIDTH: usize = 200;
 
-const ALIVE: Held = ("alive", 0);
-const OWNED: Held = ("owned", 0);
-const PRE: Held = ("pre", 0);
 /// What no turn touches of the list.
 const LIST: Held = ("list", 0);
 
@@ -27,6 +26,25 @@ fn plane(number: usize) -> Held {
 fn token(number: usize) -> Held {
     ("token", number)
 }
+
+/// The judge, which says what is to be done.
+const JUDGE: Asked = Asked {
+    callee: Callee {
+        module: "judge",
+        clauses: "judge.clauses 𝓤 H A mem run",
+        contract: "Judged 𝓤 H A mem run",
+        known: "known-judge",
+        fm: OF_TABLES,
+        answer: ["r", "w"],
+        answers: "Batch",
+        letter: "P",
+    },
+    to: "to-plan",
+    asks: "goes-plan",
+    arguments: "asked",
+    said: "r ≡ batch",
+    heard: ["said", "e"],
+};
 
 struct Walk {
     params: Vec<Param>,
@@ -44,14 +62,6 @@ struct Walk {
     pointer: usize,
     record: usize,
     count: usize,
-}
-
-fn parenthesized(text: &str) -> String {
-    if text.contains(' ') { format!("({text})") } else { text.into() }
-}
-
-fn is_slice(kind: Kind) -> bool {
-    matches!(kind, Kept | Records)
 }
 
 impl Walk {
@@ -75,7 +85,7 @@ impl Walk {
             };
         }
         let records = params.iter().find(|param| param.kind == Records).expect("a list is passed");
-        let slices = params.iter().filter(|param| is_slice(param.kind)).count();
+        let slices = params.iter().filter(|param| param.kind.is_slice()).count();
         let batch = params.len() + 1;
         let index = batch + 1;
         let lengths = index + 1;
@@ -91,18 +101,18 @@ impl Walk {
     // ---- what is passed
 
     fn slices(&self) -> impl Iterator<Item = &Param> {
-        self.params.iter().filter(|param| is_slice(param.kind))
+        self.params.iter().filter(|param| param.kind.is_slice())
     }
 
     /// The parameters that are not slices.
     fn plain(&self) -> impl Iterator<Item = &Param> {
-        self.params.iter().filter(|param| !is_slice(param.kind))
+        self.params.iter().filter(|param| !param.kind.is_slice())
     }
 
     /// Of what the judge is passed: all but the settings, of a slice its length.
     fn judged(&self) -> Vec<(&Param, String)> {
         let value =
-            |param: &Param| if is_slice(param.kind) { format!("length {}", param.name) } else { param.name.into() };
+            |param: &Param| if param.kind.is_slice() { format!("length {}", param.name) } else { param.name.into() };
         self.params.iter().filter(|param| param.name != "cfg").map(|param| (param, value(param))).collect()
     }
 
@@ -118,7 +128,7 @@ impl Walk {
 
     /// The locals that are passed to the judge, and to the step.
     fn judge_locals(&self) -> Vec<usize> {
-        let local = |param: &Param| if is_slice(param.kind) { self.length(param) } else { param.place + 1 };
+        let local = |param: &Param| if param.kind.is_slice() { self.length(param) } else { param.place + 1 };
         self.judged().into_iter().map(|(param, _)| local(param)).collect()
     }
 
@@ -131,18 +141,12 @@ impl Walk {
     // ---- the locals
 
     fn types(&self) -> Vec<String> {
-        let of_param = |param: &Param| match param.kind {
-            Kept => format!("slice{}", param.lifetime),
-            Records => String::from("sliceL"),
-            Plain(_, letter) => format!("{letter}′.mir"),
-            _ => String::from("word"),
-        };
         let words = (self.index..self.test).map(|_| "word");
-        let lent = PLANES.iter().flat_map(|_| ["ref9", "sliceTy ref9"]);
+        let lent = PLANES.iter().flat_map(|_| mir::LENT);
         let after = ["P′.mir"].into_iter().chain(words).chain(["tyBool", "tyUnit"]).chain(lent);
         let after = after.chain(["word", "tyPtr", "T′.mir"]).map(String::from);
         let types: Vec<_> =
-            [String::from("N′.mir")].into_iter().chain(self.params.iter().map(of_param)).chain(after).collect();
+            [String::from("N′.mir")].into_iter().chain(self.params.iter().map(mir::ty)).chain(after).collect();
         assert!(types.len() == self.count, "each local has its type");
         types
     }
@@ -198,20 +202,6 @@ impl Walk {
 
     // ---- steps
 
-    /// From nothing to what the judge asks.
-    fn goes_plan(&self) -> String {
-        let mut at = Context::new([]);
-        at.say("qed W [] ∵");
-        at.nothing(OWNED);
-        for (param, value) in self.judged().into_iter().rev() {
-            at.say(made(param, &value));
-            at.line();
-        }
-        at.nothing(ALIVE);
-        at.say("join ! $ frame ! $ done !");
-        at.text(6)
-    }
-
     /// From what is held after the last turn to what is said at the exit.
     fn exits(&self) -> String {
         let of_params = |plane: &str| {
@@ -256,8 +246,7 @@ impl Walk {
 
     /// The value of a local is written otherwise.
     fn rewrites(&self, at: &mut Context, local: usize, binder: &str, value: &str, equal: &str) {
-        let (place, ty, name) = (at.place((CELL, local)), &self.types()[local], sub("l", local));
-        at.say(format!("rewrite ! {place} (λ ({binder}). ‵ (fat fullShare {ty} {name} 0 {value})) {equal} refl $"));
+        at.rewrite(local, &self.types()[local], [binder, value, equal]);
     }
 
     /// A turn that does a step.
@@ -315,7 +304,7 @@ impl Walk {
         at.nothing(ALIVE);
         (0..PLANES.len()).rev().for_each(|number| at.join("join", lent_for(number), ALIVE));
         at.line();
-        let structs = joined(self.stepped().into_iter().rev(), " ", |param| made(param, param.name));
+        let structs = joined(self.stepped().into_iter().rev(), " ", |param| param.made(param.name));
         let element = "owned ! R (Is R) (LL.makes T.the-type T′.the-plain 𝓤 H A) (elem (n .0)) _ g $ fjoin ! $";
         at.turn(&[], &[OWNED]);
         at.say(format!("nothing ! $ {element} {} {structs}", number_made("i", "i-fits")));
@@ -332,13 +321,13 @@ impl Walk {
         ));
         let held = format!("({} ⊛ ‵ (unit .own z (w ∷ []))) ⊛ raw (Ensured {bound} z)", step_alive());
         at.open(format!("use1 W (later (some (λ (z : Unit {{0}}). {held}))) (id⊢ 𝓤 _) $ await ! tt $ pick ! (λ z."));
-        let (returned, ensured, fact, result) = (("returned", 0), ("ensured", 0), ("fact", 0), ("result", 0));
-        at.turn(&[PRE], &[returned, ensured]);
+        let fact = ("fact", 0);
+        at.turn(&[PRE], &[RETURNED, ENSURED]);
         at.say("split ! $");
-        at.front(&[ensured]);
+        at.front(&[ENSURED]);
         let lasts = format!("‵ (Last {bound} zs) ⊛ raw (fact 𝓤 (Said {bound} zs))");
         at.open(format!("use1 W (some (λ (zs : Lasts {bound}). {lasts})) (id⊢ 𝓤 _) $ pick ! (λ zs."));
-        at.turn(&[ensured], &[OWNED, fact]);
+        at.turn(&[ENSURED], &[OWNED, fact]);
         at.line();
         at.say("split ! $");
         at.front(&[fact]);
@@ -353,10 +342,10 @@ impl Walk {
             at.turn(&[equal], &[]);
             at.open(format!("feqL ! (λ l{field}."));
         }
-        at.front(&[returned]);
-        at.split("split", returned, [ALIVE, result]);
-        at.front(&[result]);
-        at.turn(&[result], &[]);
+        at.front(&[RETURNED]);
+        at.split("split", RETURNED, [ALIVE, RESULT]);
+        at.front(&[RESULT]);
+        at.turn(&[RESULT], &[]);
         at.open("feqL ! (λ eu.");
         let typed = "(subst (λ (y : Val). Holds (hasTy tyUnit y) × WT y) (sym (ap only eu)) (tt, tt))";
         at.say(format!("land ! {} $", at.init(self.unit, typed)));
@@ -469,34 +458,7 @@ impl Walk {
             at.assign(&format!("(of-opd ! {})", at.field(slice.place + 1, 1)), self.length(slice), &typed);
             at.line();
         }
-        at.say("use0 W (raw (Judged 𝓤 H A mem run .pre to-plan)) goes-plan $");
-        at.turn(&[], &[PRE]);
-        at.line();
-        let operands = at.operands(&self.judge_locals());
-        at.open(format!(
-            "calls-at ! (fmOf 𝓤 H (W .laws) 𝓣) (Judged 𝓤 H A mem run) known-judge to-plan {operands} (λ w."
-        ));
-        at.line();
-        let ensured = "raw (ensured 𝓤 H A judge.ended (judge.clauses 𝓤 H A mem run) tt asked tt r)";
-        let held = format!("(‵ ftrue ⊛ ‵ (P.the-row .own r (w ∷ []))) ⊛ {ensured}");
-        at.open(format!("use1 W (later (some (λ (r : Batch). {held}))) (id⊢ 𝓤 _) $ await ! tt $ pick ! (λ r."));
-        at.line();
-        let (returned, ensured, none, result) = (("returned", 0), ("ensured", 0), ("no tokens", 0), ("result", 0));
-        at.turn(&[PRE], &[returned, ensured]);
-        at.say("split ! $");
-        at.front(&[ensured]);
-        at.turn(&[ensured], &[]);
-        at.open("use1 W (raw (fact 𝓤 (r ≡ batch))) (said r) $ heard ! (r ≡ batch) (λ e.");
-        at.split("split", returned, [none, result]);
-        at.drop(none);
-        at.open("peeks ! P.the-row (Is P.the-row) (shows 𝓤 H A P.the-row) r (w ∷ []) (λ is.");
-        at.drop(result);
-        at.line();
-        let typed = "(LL.lawful P.the-type P′.the-laws 𝓤 H A W .typed r _ is .0)";
-        at.say(format!("land ! {} $", at.init(self.batch, typed)));
-        at.line();
-        self.rewrites(&mut at, self.batch, "z : Val", "z", "(ap only (LL.tells P.the-type P′.the-laws r _ is))");
-        at.line();
+        JUDGE.calls(&mut at, &self.judge_locals(), self.batch);
         at.close(&format!("by ! (after-judge r e (spelled r w is) 𝓣 known-step {places} .prf)"));
         at.text(8)
     }
@@ -505,12 +467,6 @@ impl Walk {
 
     /// The MIR and the contracts.
     fn code(&self) -> Values {
-        let planes = || 0..PLANES.len();
-        let variables = |locals: Vec<usize>| list(locals.into_iter().map(|local| format!("var {local}")));
-        let slice = |number| {
-            format!("abbrev slice{number} : Ty\nslice{number} = sliceTy (tyRef (named {number}) mut (tyInt w8))\n\n")
-        };
-        let lends = joined(planes(), " ", |number| format!("(lent {} {}", number + 1, self.lent + 2 * number));
         let sets = joined(self.slices(), " (", |slice| {
             format!("set {} (rvOpd (part {} 1))", self.length(slice), slice.place + 1)
         });
@@ -519,8 +475,7 @@ impl Walk {
         // the step has the structs after the planes, then the macroblock and its record
         let after_structs = PLANES.len() + self.stepped().len();
         vec![
-            ("slices", joined(planes(), "", slice)),
-            ("list_lifetime", self.list_lifetime.to_string()),
+            ("mir", mir::names(&self.params)),
             ("params", self.params.len().to_string()),
             ("batch", self.batch.to_string()),
             ("index", self.index.to_string()),
@@ -533,11 +488,10 @@ impl Walk {
             ("list", self.list.to_string()),
             ("record", self.record.to_string()),
             ("last", (self.count - 1).to_string()),
-            ("lends", lends),
-            ("step_vars", variables(self.step_locals())),
-            ("judge_vars", variables(self.judge_locals())),
+            ("lends", mir::lends(&self.params, self.lent)),
+            ("step_vars", mir::operands(&self.step_locals())),
+            ("judge_vars", mir::operands(&self.judge_locals())),
             ("sets_lengths", sets),
-            ("lifetimes", self.lifetimes().to_string()),
             ("types", joined(&types, " ", |ty| parenthesized(ty))),
             ("env", list(types.iter().enumerate().map(|(local, ty)| format!("({ty}, {})", sub("l", local))))),
             ("at_y", at(0)),
@@ -558,8 +512,6 @@ impl Walk {
     fn passed(&self) -> Values {
         let planes = || 0..PLANES.len();
         let each = |text: fn(&Param) -> String| tuple(self.params.iter().map(text));
-        let lifetimes = || 0..self.lifetimes();
-        let kappas = || tuple(lifetimes().map(|number| sub("κ", number)));
         let binder = |number| {
             let [b, o, gamma, y] = ["b", "o", "γ", "y"].map(|letter| sub(letter, number));
             format!("({b} {o} : ℕ) ({gamma} : GName) ({y} : List ℕ)")
@@ -582,7 +534,7 @@ impl Walk {
             _ => param.name.into(),
         };
         let value_of = |(param, value): &(&Param, String)| {
-            if is_slice(param.kind) { format!("vint w64 ({value}) ∷ []") } else { format!("{} ∷ []", param.value) }
+            if param.kind.is_slice() { format!("vint w64 ({value}) ∷ []") } else { format!("{} ∷ []", param.value) }
         };
         let lent_row = |number: usize| self.params[number].row_at(&format!("({} ∷ [])", sub("ν", number)));
         let handed =
@@ -599,8 +551,6 @@ impl Walk {
         let judged = self.judged();
         vec![
             ("stayed", each(Param::stays)),
-            ("kappas", subs("κ", lifetimes())),
-            ("shares", subs("q", lifetimes())),
             ("plane_binders", joined(planes(), " ", binder)),
             ("value_binders", joined(self.plain(), " ", |param| format!("({} : {})", param.name, param.ty()))),
             ("known", joined(self.slices().chain(self.plain()), " ", known)),
@@ -608,8 +558,6 @@ impl Walk {
             ("firsts", subs("y", planes())),
             ("Arg", product(self.params.iter().map(Param::ty))),
             ("a", tuple(self.params.iter().map(named))),
-            ("κs", kappas()),
-            ("qs", tuple(lifetimes().map(|number| sub("q", number)))),
             ("at", each(|param| format!("{} ∷ []", param.value))),
             ("judged", joined(&judged, " ", |(_, value)| parenthesized(value))),
             ("asked", tuple(judged.iter().map(|(_, value)| value.clone()))),
@@ -632,9 +580,7 @@ impl Walk {
 
     /// The walk, and what it is for.
     fn steps(&self) -> Values {
-        let each = |text: fn(&Param) -> String| tuple(self.params.iter().map(text));
-        let lifetimes = self.lifetimes();
-        let lifetime_arguments = ["κs", "qs"].into_iter().flat_map(|of| (0..lifetimes).map(move |number| (of, number)));
+        let lifetime_arguments = ["κs", "qs"].into_iter().flat_map(|of| components(of, self.lifetimes()));
         let slice = |slice: &Param| {
             let reference = component("a", slice.place);
             joined(["ptr .0", "ptr .1", "name", "now"], " ", |part| format!("({reference} .{part})"))
@@ -646,7 +592,7 @@ impl Walk {
             _ => format!("({})", param.typed()),
         };
         vec![
-            ("goes_plan", self.goes_plan()),
+            ("goes_plan", asks(&self.judged())),
             ("held", self.held_text("n")),
             ("exits", self.exits()),
             ("places", subs("l", 0..self.count)),
@@ -660,15 +606,9 @@ impl Walk {
             ("values", joined(&self.params, " ", |param| parenthesized(&param.value))),
             ("typed", joined(&self.params, " ", typed)),
             ("walk", self.walk()),
-            ("slots", each(Param::vals)),
-            ("tells", each(Param::tells)),
-            (
-                "lifetime_arguments",
-                joined(lifetime_arguments, " ", |(of, number)| format!("({})", component(of, number))),
-            ),
+            ("lifetime_arguments", joined(lifetime_arguments, " ", |argument| argument)),
             ("arguments", joined(arguments, " ", |argument| argument)),
             ("witnesses", joined(self.slices().chain(self.plain()), " ", Param::witnessed)),
-            ("goes", tuple(self.params.iter().map(|param| param.goes(lifetimes)))),
         ]
     }
 }
@@ -698,26 +638,11 @@ fn step_alive() -> String {
     alive((0..PLANES.len()).map(|number| (format!("({} ∷ [])", sub("ν", number)), String::from("fullShare"))))
 }
 
-/// What a value owns that needs nothing for it.
-fn made(param: &Param, value: &str) -> String {
-    match param.kind {
-        Plain(_, letter) => {
-            let makes = format!("(LL.makes {letter}.the-type {letter}′.the-plain 𝓤 H A)");
-            format!("owned ! {letter}.the-row (Is {letter}.the-row) {makes} {value} _ {} $ fjoin ! $", param.witness)
-        }
-        Number => number_made(value, &param.witness),
-        _ => number_made(&parenthesized(value), &format!("{} .0", param.witness)),
-    }
-}
-
-fn number_made(value: &str, fits: &str) -> String {
-    format!("owned ! usize (Is usize) (uint-makes 𝓤 H A W w64) {value} _ (refl, {fits}) $ fjoin ! $")
-}
-
 /// The proof, and of the function how many locals and parameters it has.
 pub fn proof() -> (Proof, usize, usize) {
     let walk = Walk::new();
-    let values = [walk.code(), walk.passed(), walk.steps()].concat();
+    let of_params = [lifetime_values(&walk.params), row_values(&walk.params)].concat();
+    let values = [of_params, walk.code(), walk.passed(), walk.steps()].concat();
     let proof = Proof { path: String::from("crates/frame/proofs/RecordWalk.antt"), text: fill(TEMPLATE, &values) };
     (proof, walk.count, walk.params.len())
 }

@@ -50,6 +50,21 @@ pub fn component(tuple: &str, place: usize) -> String {
     format!("{tuple}{} .0", " .1".repeat(place))
 }
 
+/// The first so many components of a tuple, each as an argument.
+pub fn components(tuple: &str, count: usize) -> impl Iterator<Item = String> {
+    (0..count).map(move |place| format!("({})", component(tuple, place)))
+}
+
+/// A term as an argument.
+pub fn parenthesized(text: &str) -> String {
+    if text.contains(' ') { format!("({text})") } else { text.into() }
+}
+
+/// Each line of the text so much further to the right.
+pub fn indented(text: &str, spaces: usize) -> String {
+    joined(text.split('\n'), "\n", |line| if line.is_empty() { String::new() } else { " ".repeat(spaces) + line })
+}
+
 /// What is known of lifetimes that live: `(‵ (flft κ q) ⊛ .. ⊛ ‵ ftrue)`.
 pub fn alive(lifetimes: impl IntoIterator<Item = (String, String)>) -> String {
     format!("({}‵ ftrue)", joined(lifetimes, "", |(lifetime, share)| format!("‵ (flft {lifetime} {share}) ⊛ ")))

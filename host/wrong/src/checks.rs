@@ -6,7 +6,7 @@ use std::io::{BufRead, BufReader};
 use std::process::{Command, Stdio};
 
 /// The modules of `compare` to try first, for functions whose names begin so.
-const MODULES: [(&str, &[&str]); 16] = [
+const MODULES: [(&str, &[&str]); 17] = [
     ("vp8lf_clamp_s8", &["numbers"]),
     ("vp8lf_u2s", &["numbers"]),
     ("vp8lf_s2u", &["numbers"]),
@@ -19,6 +19,7 @@ const MODULES: [(&str, &[&str]); 16] = [
     ("vp8lf_calculate_mb_filter_level", &["levels"]),
     ("vp8lf_mb_has_coeffs", &["coefficients", "vast"]),
     ("vp8lf_filter", &["refusals", "grids", "vast", "table", "passes", "halting"]),
+    ("vp8lf_loop_filter", &["frames", "vast"]),
     ("vp8lf_final_rows", &["final_rows"]),
     ("vp8lf_reconstruction_ssd", &["search", "sources", "vast"]),
     ("vp8lf_select", &["search", "sources", "vast"]),

@@ -19,9 +19,12 @@ pub fn text(functions: &[Function], all: &[Wrong]) -> String {
     for function in functions {
         let of_it = |wrong: &&Wrong| wrong.function == function.name;
         let searches = function.parameters.iter().any(|parameter| parameter.name == "scratch_y");
+        let pass = function.name.strip_prefix("vp8lf_loop_").map(|pass| format!("vp8lf_{pass}"));
         text += &if searches { tried(functions, function) } else { String::new() };
+        text += &pass.as_ref().map_or(String::new(), |pass| beside(functions, pass));
         text += &shim(function, all.iter().filter(of_it));
         text += if searches { "#undef TRY\n#undef SEARCH\n" } else { "" };
+        text += if pass.is_some() { "#undef PASS\n" } else { "" };
     }
     text
 }
@@ -45,6 +48,11 @@ fn call(functions: &[Function], name: &str, instead: &[(&str, &str)]) -> String 
     };
     let arguments: Vec<String> = function.parameters.iter().map(argument).collect();
     format!("{RENAMED}{name}({})", arguments.join(", "))
+}
+
+/// What the faults of a frame call may use: `PASS` calls the pass that it stands beside.
+fn beside(functions: &[Function], pass: &str) -> String {
+    format!("\n#define PASS answer = {}\n", call(functions, pass, &[]))
 }
 
 /// What the faults of a search may use. `TRY(level, sharpness)` leaves in scratch what the pass with these leaves of the

@@ -262,6 +262,104 @@ unsafe extern "C" {
         next: *mut usize,
     ) -> u8;
 
+    /// The frame call of a key frame: the pass, turned off by header level 0. Refusals 1, 2, 3, 5, 6 and 7.
+    ///
+    /// # Safety
+    ///
+    /// As [the crate says](crate#safety) of planes that are written, of lists, and of `count` and `next`.
+    pub fn vp8lf_loop_filter_frame(
+        y: *mut u8,
+        y_len: usize,
+        u: *mut u8,
+        u_len: usize,
+        v: *mut u8,
+        v_len: usize,
+        mb_cols: usize,
+        mb_rows: usize,
+        y_stride: usize,
+        uv_stride: usize,
+        modes: *const u8,
+        modes_len: usize,
+        segments: *const u8,
+        segments_len: usize,
+        flags: *const u8,
+        flags_len: usize,
+        simple: bool,
+        key_frame: bool,
+        loop_filter_level: u8,
+        sharpness_level: u8,
+        segmentation_enabled: bool,
+        segment_abs: bool,
+        segment_level_0: i16,
+        segment_level_1: i16,
+        segment_level_2: i16,
+        segment_level_3: i16,
+        delta_enabled: bool,
+        ref_delta_current: i16,
+        bpred_mode_delta: i16,
+        ref_delta_last: i16,
+        ref_delta_golden: i16,
+        ref_delta_altref: i16,
+        zero_mv_mode_delta: i16,
+        other_mv_mode_delta: i16,
+        split_mv_mode_delta: i16,
+        start: usize,
+        allowance: usize,
+        count: *mut usize,
+        next: *mut usize,
+    ) -> u8;
+
+    /// The frame call of an inter frame: the pass, turned off by header level 0. Refusals 1, 2, 3, 5, 6 and 7.
+    ///
+    /// # Safety
+    ///
+    /// As [the crate says](crate#safety) of planes that are written, of lists, and of `count` and `next`.
+    pub fn vp8lf_loop_filter_inter_frame(
+        y: *mut u8,
+        y_len: usize,
+        u: *mut u8,
+        u_len: usize,
+        v: *mut u8,
+        v_len: usize,
+        mb_cols: usize,
+        mb_rows: usize,
+        y_stride: usize,
+        uv_stride: usize,
+        modes: *const u8,
+        modes_len: usize,
+        segments: *const u8,
+        segments_len: usize,
+        flags: *const u8,
+        flags_len: usize,
+        references: *const u8,
+        references_len: usize,
+        inter_modes: *const u8,
+        inter_modes_len: usize,
+        simple: bool,
+        key_frame: bool,
+        loop_filter_level: u8,
+        sharpness_level: u8,
+        segmentation_enabled: bool,
+        segment_abs: bool,
+        segment_level_0: i16,
+        segment_level_1: i16,
+        segment_level_2: i16,
+        segment_level_3: i16,
+        delta_enabled: bool,
+        ref_delta_current: i16,
+        bpred_mode_delta: i16,
+        ref_delta_last: i16,
+        ref_delta_golden: i16,
+        ref_delta_altref: i16,
+        zero_mv_mode_delta: i16,
+        other_mv_mode_delta: i16,
+        split_mv_mode_delta: i16,
+        start: usize,
+        allowance: usize,
+        count: *mut usize,
+        next: *mut usize,
+    ) -> u8;
+
     /// How many leading rows are final once the macroblocks before `start` are done. Refusals 1 and 7.
     ///
     /// # Safety

@@ -40,7 +40,7 @@ fn filter(planes: &mut KeyframePlanes, sent: &mut Sent) -> Result<(), Refusal> {
     let (modes, flags) = ([MacroblockModes::default(); COLUMNS * ROWS], [false; COLUMNS * ROWS]);
     // README: from here
     let config = FrameFilterConfig::default().with_key_frame(true).with_loop_filter_level(24);
-    let mut pass = FramePass::new(planes, &modes, &flags, None, &config)?;
+    let mut pass = FramePass::of_frame(planes, &modes, &flags, None, &config)?;
     while !pass.is_done() {
         pass.advance(COLUMNS)?; // one row of macroblocks a call
         sent.send_down(pass.planes(), pass.final_rows()?); // these rows will not change any more

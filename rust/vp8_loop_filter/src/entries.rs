@@ -132,8 +132,19 @@ pub fn calculate_mb_filter_level_inter(
     )
 }
 
-/// The inter pass if there are lists of references and inter modes, else the key pass.
+/// A pass itself, or the frame call beside it.
+#[derive(Clone, Copy, Debug, PartialEq)]
+pub enum Form {
+    /// The header level is one number of the settings like the others.
+    Pass,
+    /// Header level 0 turns the filter off.
+    Frame,
+}
+
+/// The inter pass if there are lists of references and inter modes, else the key pass; or the frame call of it.
+#[allow(clippy::too_many_arguments)]
 pub fn filter(
+    form: Form,
     planes: &mut PlanesMut<'_>,
     lists: &ByteLists<'_>,
     config: &FrameFilterConfig,
@@ -157,9 +168,15 @@ pub fn filter(
             )
         };
     }
-    match lists.inter.map(|lists| lists.map(lend)) {
-        None => pass!(vp8lf_filter_frame),
-        Some([references, inter_modes]) => pass!(vp8lf_filter_inter_frame, references, inter_modes),
+    match (lists.inter.map(|lists| lists.map(lend)), form) {
+        (None, Form::Pass) => pass!(vp8lf_filter_frame),
+        (None, Form::Frame) => pass!(vp8lf_loop_filter_frame),
+        (Some([references, inter_modes]), Form::Pass) => {
+            pass!(vp8lf_filter_inter_frame, references, inter_modes)
+        }
+        (Some([references, inter_modes]), Form::Frame) => {
+            pass!(vp8lf_loop_filter_inter_frame, references, inter_modes)
+        }
     }
 }
 

@@ -1,7 +1,7 @@
 //! A pass that is prepared once and halted as often as its caller likes.
 
 use crate::config::FrameFilterConfig;
-use crate::entries;
+use crate::entries::{self, Form};
 use crate::macroblock::{InterFilterInfo, Lists, MacroblockModes};
 use crate::passes::{Done, FinalRows, final_rows};
 use crate::planes::{Planes, PlanesMut};
@@ -41,6 +41,7 @@ use crate::refusal::{Lent, Refusal, answer};
 /// ```
 #[derive(Debug)]
 pub struct FramePass<'a> {
+    form: Form,
     planes: PlanesMut<'a>,
     lists: Lists,
     config: FrameFilterConfig,
@@ -61,17 +62,45 @@ impl<'a> FramePass<'a> {
         PlanesMut<'a>: From<&'a mut P>,
         MacroblockModes: for<'m> From<&'m M>,
     {
-        let (planes, lists) = (PlanesMut::from(planes), Lists::new(modes, has_coeffs.iter().copied(), inter));
-        let mut pass = FramePass { planes, lists, config: *config, next: 0 };
+        Self::judged(Form::Pass, planes.into(), Lists::new(modes, has_coeffs.iter().copied(), inter), config)
+    }
+
+    /// The same of the frame call, which a decoder takes: header level 0 turns the filter off, as
+    /// [`loop_filter_frame`](crate::loop_filter_frame) says. Its macroblocks are gone through all the same, and
+    /// [`next`](Self::next) and [`final_rows`](Self::final_rows) tell what they tell of any pass; that rows once counted
+    /// stay is the theorems `key-frame-while-decoding` and `inter-frame-while-decoding` of
+    /// `crates/frame_calls/proofs/FrameDemand3.antt`.
+    pub fn of_frame<P, M>(
+        planes: &'a mut P,
+        modes: &[M],
+        has_coeffs: &[bool],
+        inter: Option<&InterFilterInfo<'_>>,
+        config: &FrameFilterConfig,
+    ) -> Result<FramePass<'a>, Refusal>
+    where
+        PlanesMut<'a>: From<&'a mut P>,
+        MacroblockModes: for<'m> From<&'m M>,
+    {
+        Self::judged(Form::Frame, planes.into(), Lists::new(modes, has_coeffs.iter().copied(), inter), config)
+    }
+
+    /// No macroblock done, and not refused.
+    fn judged(
+        form: Form,
+        planes: PlanesMut<'a>,
+        lists: Lists,
+        config: &FrameFilterConfig,
+    ) -> Result<FramePass<'a>, Refusal> {
+        let mut pass = FramePass { form, planes, lists, config: *config, next: 0 };
         pass.advance(0)?;
         Ok(pass)
     }
 
     /// Filters at most `allowance` macroblocks more, in raster order. A pass that was made is not refused.
     pub fn advance(&mut self, allowance: usize) -> Result<Done, Refusal> {
-        let FramePass { planes, lists, config, next } = self;
-        let mut done = Done { count: 0, next: 0 };
-        let number = entries::filter(planes, &lists.bytes(), config, *next, allowance, &mut done.count, &mut done.next);
+        let FramePass { form, planes, lists, config, next } = self;
+        let (mut done, bytes) = (Done { count: 0, next: 0 }, lists.bytes());
+        let number = entries::filter(*form, planes, &bytes, config, *next, allowance, &mut done.count, &mut done.next);
         answer(number, || Lent::from(&*planes).and_lists(&lists.lent).and_start(*next))?;
         *next = done.next;
         Ok(done)

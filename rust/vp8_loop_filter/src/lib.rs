@@ -5,8 +5,9 @@
 //!
 //! - Planes are lent: a call takes a reference to [`KeyframePlanes`], to [`PlanesMut`] or [`Planes`], or to a caller's own
 //!   record that these two are `From`.
-//! - [`filter_frame`] and [`filter_inter_frame`] filter a frame. A [`FramePass`] halts after some macroblocks and goes on
-//!   later, and says which rows are final by then.
+//! - [`loop_filter_frame`] and [`loop_filter_inter_frame`] filter a frame as a decoder does: a header level of 0 turns the
+//!   filter off. [`filter_frame`] and [`filter_inter_frame`] are the passes of the Rust, which do not test that level.
+//!   A [`FramePass`] of either halts after some macroblocks and goes on later, and says which rows are final by then.
 //! - [`select_filter_params`] and [`select_filter_level`] choose a level for an encoder, [`full_search`] the best of all
 //!   levels and sharpness values for one that has the time, as for a still.
 //! - [`LoopFilterParams::derive`], [`calculate_mb_filter_level`] and the kernels such as [`mb_filter`] are the parts.
@@ -20,6 +21,7 @@ mod config;
 #[allow(missing_docs, unsafe_code)]
 #[doc(hidden)]
 pub mod entries;
+mod frame_calls;
 mod frame_pass;
 mod full_search;
 mod kernels;
@@ -31,6 +33,10 @@ mod refusal;
 mod search;
 
 pub use config::{FrameFilterConfig, MAX_MB_SEGMENTS, MAX_MODE_LF_DELTAS, MAX_REF_LF_DELTAS};
+pub use frame_calls::{
+    loop_filter_frame, loop_filter_frame_flags, loop_filter_frame_from, loop_filter_inter_frame,
+    loop_filter_inter_frame_flags, loop_filter_inter_frame_from,
+};
 pub use frame_pass::FramePass;
 pub use full_search::{Best, full_search, full_search_in};
 pub use kernels::{

@@ -1,7 +1,7 @@
 //! Both passes, whole and halted (RFC 6386, sections 15 and 15.1).
 
 use crate::config::FrameFilterConfig;
-use crate::entries;
+use crate::entries::{self, Form};
 use crate::levels::mb_has_coeffs;
 use crate::macroblock::{InterFilterInfo, InterMode, Lists, MacroblockModes, MbCoeffs, RefFrame};
 use crate::planes::{Planes, PlanesMut};
@@ -27,6 +27,9 @@ pub struct FinalRows {
 
 /// Filters a key frame. Can be refused with 1, 2, 3 or 5.
 ///
+/// The header level alone is not tested, as in the Rust: [`loop_filter_frame`](crate::loop_filter_frame) leaves a frame of
+/// header level 0 as it is.
+///
 /// ```
 /// use vp8_loop_filter::{FrameFilterConfig, KeyframePlanes, MacroblockModes, MbCoeffs, filter_frame};
 ///
@@ -50,7 +53,7 @@ where
     PlanesMut<'a>: From<&'a mut P>,
     MacroblockModes: for<'m> From<&'m M>,
 {
-    whole(planes.into(), &Lists::new(modes, coeffs.iter().map(mb_has_coeffs), None), config)
+    whole(Form::Pass, planes.into(), &Lists::new(modes, coeffs.iter().map(mb_has_coeffs), None), config)
 }
 
 /// [`filter_frame`] with a flag for each macroblock in place of its coefficients: whether any is not 0.
@@ -84,7 +87,7 @@ where
     PlanesMut<'a>: From<&'a mut P>,
     MacroblockModes: for<'m> From<&'m M>,
 {
-    whole(planes.into(), &Lists::new(modes, has_coeffs.iter().copied(), None), config)
+    whole(Form::Pass, planes.into(), &Lists::new(modes, has_coeffs.iter().copied(), None), config)
 }
 
 /// [`filter_frame_flags`] halted: from macroblock `start` in raster order, at most `allowance` macroblocks. Can be
@@ -128,10 +131,11 @@ where
     PlanesMut<'a>: From<&'a mut P>,
     MacroblockModes: for<'m> From<&'m M>,
 {
-    part(planes.into(), &Lists::new(modes, has_coeffs.iter().copied(), None), config, start, allowance)
+    part(Form::Pass, planes.into(), &Lists::new(modes, has_coeffs.iter().copied(), None), config, start, allowance)
 }
 
-/// Filters an inter frame. Can be refused with 1, 2, 3 or 5.
+/// Filters an inter frame. Can be refused with 1, 2, 3 or 5. The header level alone is not tested:
+/// [`loop_filter_inter_frame`](crate::loop_filter_inter_frame) leaves a frame of header level 0 as it is.
 pub fn filter_inter_frame<'a, P, M>(
     planes: &'a mut P,
     modes: &[M],
@@ -145,7 +149,7 @@ where
     MacroblockModes: for<'m> From<&'m M>,
 {
     let inter = InterFilterInfo { ref_frames, inter_modes };
-    whole(planes.into(), &Lists::new(modes, coeffs.iter().map(mb_has_coeffs), Some(&inter)), config)
+    whole(Form::Pass, planes.into(), &Lists::new(modes, coeffs.iter().map(mb_has_coeffs), Some(&inter)), config)
 }
 
 /// [`filter_inter_frame`] with a flag for each macroblock in place of its coefficients: whether any is not 0.
@@ -162,7 +166,7 @@ where
     MacroblockModes: for<'m> From<&'m M>,
 {
     let inter = InterFilterInfo { ref_frames, inter_modes };
-    whole(planes.into(), &Lists::new(modes, has_coeffs.iter().copied(), Some(&inter)), config)
+    whole(Form::Pass, planes.into(), &Lists::new(modes, has_coeffs.iter().copied(), Some(&inter)), config)
 }
 
 /// [`filter_inter_frame_flags`] halted, as [`filter_frame_from`] is. Can be refused with 7 too.
@@ -182,7 +186,14 @@ where
     MacroblockModes: for<'m> From<&'m M>,
 {
     let inter = InterFilterInfo { ref_frames, inter_modes };
-    part(planes.into(), &Lists::new(modes, has_coeffs.iter().copied(), Some(&inter)), config, start, allowance)
+    part(
+        Form::Pass,
+        planes.into(),
+        &Lists::new(modes, has_coeffs.iter().copied(), Some(&inter)),
+        config,
+        start,
+        allowance,
+    )
 }
 
 /// How many leading rows of samples are final when the macroblocks before `start` are done. Reads the grid alone. Can
@@ -198,11 +209,17 @@ where
     answer(number, || Lent::from(&planes).and_start(start)).map(|()| rows)
 }
 
-fn whole(planes: PlanesMut<'_>, lists: &Lists, config: &FrameFilterConfig) -> Result<(), Refusal> {
-    part(planes, lists, config, 0, usize::MAX).map(|_| ())
+pub(crate) fn whole(
+    form: Form,
+    planes: PlanesMut<'_>,
+    lists: &Lists,
+    config: &FrameFilterConfig,
+) -> Result<(), Refusal> {
+    part(form, planes, lists, config, 0, usize::MAX).map(|_| ())
 }
 
-fn part(
+pub(crate) fn part(
+    form: Form,
     mut planes: PlanesMut<'_>,
     lists: &Lists,
     config: &FrameFilterConfig,
@@ -211,6 +228,6 @@ fn part(
 ) -> Result<Done, Refusal> {
     let mut done = Done { count: 0, next: 0 };
     let number =
-        entries::filter(&mut planes, &lists.bytes(), config, start, allowance, &mut done.count, &mut done.next);
+        entries::filter(form, &mut planes, &lists.bytes(), config, start, allowance, &mut done.count, &mut done.next);
     answer(number, || Lent::from(&planes).and_lists(&lists.lent).and_start(start)).map(|()| done)
 }

@@ -38,8 +38,33 @@ fn pass_refusal(planes: KeyframePlanes, modes: usize, flags: usize, inter: usize
         let prepared = FramePass::new(&mut lent, &modes, &flags, Some(&inter), &config()).unwrap_err();
         assert_eq!(prepared.to_string(), text);
     }
+    for level in [0, 40] {
+        let refused = frame_refusals(&mut lent, &modes, &flags, &inter, &config().with_loop_filter_level(level), start);
+        refused.iter().for_each(|refusal| assert_eq!(*refusal, text, "a frame call at header level {level}"));
+    }
     assert_eq!(lent, planes);
     text
+}
+
+/// The texts of the refusals that the frame calls give, halted, and prepared from start 0.
+fn frame_refusals(
+    planes: &mut KeyframePlanes,
+    modes: &[MacroblockModes],
+    flags: &[bool],
+    inter: &InterFilterInfo<'_>,
+    config: &FrameFilterConfig,
+    start: usize,
+) -> Vec<String> {
+    let InterFilterInfo { ref_frames, inter_modes } = inter;
+    let mut refusals =
+        vec![loop_filter_inter_frame_from(planes, modes, flags, ref_frames, inter_modes, config, start, MOST).err()];
+    if ref_frames.len() == planes.mb_cols.saturating_mul(planes.mb_rows) {
+        refusals.push(loop_filter_frame_from(planes, modes, flags, config, start, MOST).err());
+    }
+    if start == 0 {
+        refusals.push(FramePass::of_frame(planes, modes, flags, Some(inter), config).err());
+    }
+    refusals.into_iter().map(|refusal| refusal.expect("a refusal").to_string()).collect()
 }
 
 #[test]

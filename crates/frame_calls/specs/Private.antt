@@ -1,0 +1,2 @@
+-- What private functions promise each other: steps of the proof, which no public contract cites.
+pub mod PassSettings

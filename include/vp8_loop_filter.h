@@ -170,6 +170,12 @@ uint8_t vp8lf_calculate_mb_filter_level_inter(bool simple, bool key_frame, uint8
 bool vp8lf_mb_has_coeffs(const int16_t *coeffs, size_t coeffs_len);
 
 /*
+ * The place, from 0, of the first of coeffs_len coefficients that is not 0, in the same order; coeffs_len if all are 0.
+ * Neither of the two functions looks further than that place.
+ */
+size_t vp8lf_first_coeff(const int16_t *coeffs, size_t coeffs_len);
+
+/*
  * Passes (RFC 6386, section 15.1), which can be halted. A header level of 0 by itself turns nothing off here: a decoder takes
  * the frame calls, below.
  *

@@ -208,6 +208,25 @@ static void coefficients(void)
     check("an empty list", false, vp8lf_mb_has_coeffs(coeffs + 399, 0));
 }
 
+/* One number set at each place, and every number after it too. */
+static void first_coefficients(void)
+{
+    static const int16_t numbers[] = {1, -1, 256, -256, INT16_MIN, INT16_MAX};
+    int16_t coeffs[400] = {0};
+    check("no first coefficient", 400, vp8lf_first_coeff(coeffs, 400));
+    for (size_t place = 400; place-- > 0;) {
+        for (size_t i = 0; i < sizeof numbers / sizeof *numbers; i++) {
+            coeffs[place] = numbers[i];
+            check("the first coefficient", place, vp8lf_first_coeff(coeffs, 400));
+            check("it is the last", place, vp8lf_first_coeff(coeffs, place + 1));
+            check("it is alone", 0, vp8lf_first_coeff(coeffs + place, 1));
+            check("it comes after the list", place, vp8lf_first_coeff(coeffs, place));
+            check("the test is answered from it", true, vp8lf_mb_has_coeffs(coeffs, place + 1));
+            check("and without it", false, vp8lf_mb_has_coeffs(coeffs, place));
+        }
+    }
+}
+
 /* A grid of 2 columns by 1 row, every macroblock of mode Dc with coefficients; and a call on it. */
 struct picture {
     uint8_t y[16 * 32], u[8 * 16], v[8 * 16];
@@ -516,6 +535,7 @@ static void null_kernels_and_passes(void)
     struct picture p = sawtooth();
     int32_t adjustment = 99;
     check("no coefficients", false, vp8lf_mb_has_coeffs(NULL, 0));
+    check("no first coefficient", 0, vp8lf_first_coeff(NULL, 0));
     check("common_adjust without bytes", VP8LF_NO_WINDOW, vp8lf_common_adjust(true, NULL, 0, 0, &adjustment));
     check("simple_segment without bytes", VP8LF_NO_WINDOW, vp8lf_simple_segment(20, NULL, 0, 0));
     check("subblock_filter without bytes", VP8LF_NO_WINDOW, vp8lf_subblock_filter(0, 1, 20, NULL, 0, SIZE_MAX));
@@ -1168,6 +1188,7 @@ int main(void)
     refused(8, SIZE_MAX);
     levels();
     coefficients();
+    first_coefficients();
     figure_m();
     figures_n_and_o(key_pass);
     figures_n_and_o(inter_pass);

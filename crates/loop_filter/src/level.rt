@@ -1,10 +1,10 @@
-// C functions: the level of a macroblock, and the coefficient test. Settings cross as numbers.
+// C functions: the level of a macroblock, the coefficient test, and the first coefficient's place. Settings cross as numbers.
 use crate::settings::settings;
 use levels::level::LevelAnswer;
 ghost use mathlib.Core.Path.{_≡_};
 ghost use Rattle.arithmetic.specs.Outcome.{numberOf};
 ghost use Rattle.levels.specs.Levels.{keyAnswer, interAnswer};
-ghost use Rattle.levels.specs.Coefficients.{hasCoeffs};
+ghost use Rattle.levels.specs.Coefficients.{hasCoeffs, firstCoeff};
 ghost use Rattle.loop_filter.specs.Returned.{Returned};
 ghost use Rattle.loop_filter.specs.Settings.{settingsOf};
 
@@ -149,4 +149,11 @@ pub extern "C" fn vp8lf_mb_has_coeffs(coeffs: &[i16]) -> bool
     ensures { λ r. ⌜ r ≡ hasCoeffs (now (coeffs .entry)) ⌝ }
 {
     levels::coeffs::mb_has_coeffs(coeffs)
+}
+
+#[no_mangle]
+pub extern "C" fn vp8lf_first_coeff(coeffs: &[i16]) -> usize
+    ensures { λ r. ⌜ r ≡ firstCoeff (now (coeffs .entry)) ⌝ }
+{
+    levels::coeffs::first_coeff(coeffs)
 }

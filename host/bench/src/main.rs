@@ -1,13 +1,15 @@
 //! Times both passes, the search and the full search of the library against the Rust's on the recorded frames for timing,
 //! in one run and in turn, and prints each smallest time of the library as a part of the Rust's smallest time; then how
-//! the time of a pass grows with the grid, what halting costs a caller of the Rust crate, and what the frame calls take.
+//! the time of a pass grows with the grid, what halting costs a caller of the Rust crate, and what the frame calls and the
+//! coefficient test take.
 //!
 //! The level is forced: every macroblock has it, whatever its segment, reference and mode. "Rows" halts after each row
 //! of macroblocks.
 //!
 //! `--noise AMPLITUDE` adds uniform noise to the frames first. `--libvpx` times the passes against libvpx's SSE2 filters
-//! instead; `--halting`, `--full-search` and `--frame-calls` time these alone.
+//! instead; `--halting`, `--full-search`, `--frame-calls` and `--coefficients` time these alone.
 
+mod coefficients;
 mod frame_calls;
 mod growth;
 mod halting;
@@ -40,6 +42,7 @@ fn main() -> ExitCode {
         Part::Halting => halting::compare(&frames, repetitions),
         Part::FullSearch => searches(&frames, |frame, simple| search::compare_full(frame, simple, repetitions)),
         Part::FrameCalls => frame_calls::compare(&frames, repetitions),
+        Part::Coefficients => coefficients::compare(repetitions),
     }
     ExitCode::SUCCESS
 }
@@ -51,6 +54,7 @@ fn all(frames: &[Frame], repetitions: usize) {
     growth::compare(frames.iter().find(|frame| frame.config().key_frame).expect("a key frame"), repetitions);
     halting::compare(frames, repetitions);
     frame_calls::compare(frames, repetitions);
+    coefficients::compare(repetitions);
 }
 
 /// Each frame with the normal and with the simple filter.

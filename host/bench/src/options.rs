@@ -1,7 +1,7 @@
 //! What the program is asked to do.
 
-pub const USAGE: &str =
-    "usage: bench [REPETITIONS] [--noise AMPLITUDE] [--libvpx | --halting | --full-search | --frame-calls]";
+pub const USAGE: &str = "usage: bench [REPETITIONS] [--noise AMPLITUDE] \
+    [--libvpx | --halting | --full-search | --frame-calls | --coefficients]";
 
 #[derive(Debug, PartialEq)]
 pub struct Options {
@@ -24,6 +24,8 @@ pub enum Part {
     FullSearch,
     /// The frame calls alone.
     FrameCalls,
+    /// The coefficient test alone.
+    Coefficients,
 }
 
 impl Options {
@@ -37,6 +39,7 @@ impl Options {
                 "--halting" => parts.push(Part::Halting),
                 "--full-search" => parts.push(Part::FullSearch),
                 "--frame-calls" => parts.push(Part::FrameCalls),
+                "--coefficients" => parts.push(Part::Coefficients),
                 number => options.repetitions = number.parse().ok().filter(|number| *number > 0)?,
             }
         }
@@ -59,6 +62,7 @@ mod tests {
         assert_eq!(read("--noise 2 7 --libvpx"), Some(Options { repetitions: 7, noise: 2, part: Part::Libvpx }));
         assert_eq!(read("--full-search 1"), Some(Options { repetitions: 1, noise: 0, part: Part::FullSearch }));
         assert_eq!(read("3 --frame-calls"), Some(Options { repetitions: 3, noise: 0, part: Part::FrameCalls }));
+        assert_eq!(read("--coefficients"), Some(Options { repetitions: 20, noise: 0, part: Part::Coefficients }));
         for wrong in
             ["0", "-1", "--noise", "--noise 256", "--libvp", "--libvpx --halting", "--full-search --halting", "x"]
         {

@@ -1,12 +1,14 @@
-//! `mb_has_coeffs` on lists of 0 to 800 numbers with one number set at each place, on lists with several set, on long
-//! lists, with every number set, and on the Rust's `MbCoeffs`, flattened in the order y2, y, u, v. No list changes.
+//! `mb_has_coeffs` and `first_coeff` on the same lists: of 0 to 800 numbers with one number set at each place, with
+//! several set, long ones, with every number set, and on the Rust's `MbCoeffs`, flattened in the order y2, y, u, v. No list
+//! changes. The Rust has no `first_coeff`: of a list of 400 its own test says where the first number that is not 0 stands.
 
-use crate::guard::{self, Guarded, SIDES};
+use crate::guard::{self, Guarded, SIDES, Side};
 use crate::soak::Draw;
 use crate::tally::{Kind, Tally};
 use crate::{Plan, ffi};
 use oracle::MbCoeffs;
 use rules::random::Random;
+use vp8_loop_filter_sys::{vp8lf_first_coeff, vp8lf_mb_has_coeffs};
 
 const LONGEST: usize = 800;
 /// Lengths of long lists.
@@ -15,26 +17,26 @@ const LONG: [usize; 8] = [1024, 4096, 4097, 32_768, 65_535, 65_536, 65_537, 1 <<
 const SET: [i16; 8] = [1, -1, 2, i16::MAX, i16::MIN, 256, -256, 255];
 
 pub fn compare(plan: &Plan, tally: &mut Tally) {
-    tally.run("mb_has_coeffs, lists of 0 to 800", &["no number set", "one number set", "several set"], |kind| {
+    tally.run("coefficients, lists of 0 to 800", &["no number set", "one number set", "several set"], |kind| {
         let mut memory = Guarded::new((LONGEST + 2) * size_of::<i16>());
         let mut random = Random::new(plan.seed);
         (0..=LONGEST).try_for_each(|len| lists(len, &mut random, &mut memory, kind))
     });
-    tally.run("mb_has_coeffs, every number", &["one number set"], |kind| {
+    tally.run("coefficients, every number", &["one number set"], |kind| {
         let (mut random, mut memory) = (Random::new(plan.seed), Guarded::new(400 * size_of::<i16>()));
         (i16::MIN..=i16::MAX).filter(|number| *number != 0).try_for_each(|number| {
             let mut list = vec![0; random.one_of(&[1, 25, 400])];
             let place = random.below(list.len());
             list[place] = number;
-            same(kind, "one number set", memory.lend(random.one_of(&SIDES), &list), true)
+            same(kind, "one number set", memory.lend(random.one_of(&SIDES), &list), place)
         })
     });
-    tally.run("mb_has_coeffs, long lists", &["no number set", "one number set"], |kind| {
+    tally.run("coefficients, long lists", &["no number set", "one number set"], |kind| {
         let (mut random, mut memory) = (Random::new(plan.seed), Guarded::new(2 << 20));
         LONG.into_iter().try_for_each(|len| long_lists(len, &mut random, &mut memory, kind))
     });
     tally.run(
-        "mb_has_coeffs, flattened MbCoeffs",
+        "coefficients, flattened MbCoeffs",
         &["no number set", "in y2", "in y", "in u", "in v", "in y2 and v"],
         |kind| {
             let mut memory = Guarded::new(400 * size_of::<i16>());
@@ -43,25 +45,29 @@ pub fn compare(plan: &Plan, tally: &mut Tally) {
             (0..rounds).try_for_each(|_| records(&mut random, &mut memory, kind))
         },
     );
+    tally.run("coefficients, nothing to read after the first", &["one number set"], |kind| {
+        let (mut random, mut memory) = (Random::new(plan.seed), Guarded::new((LONGEST + 1) * size_of::<i16>()));
+        (0..=LONGEST).try_for_each(|place| unreadable_after(place, &mut random, &mut memory, kind))
+    });
 }
 
 /// All 0, then one set at each place, then several; and all 0 with other numbers right before and after the list.
 fn lists(len: usize, random: &mut Random, memory: &mut Guarded, kind: &mut Kind) -> Result<(), String> {
     for side in SIDES {
         let beside = memory.lend(side, &[vec![1], vec![0; len], vec![1]].concat());
-        same(kind, "no number set", &beside[1..=len], false)?;
+        same(kind, "no number set", &beside[1..=len], len)?;
         let list = memory.lend(side, &vec![0; len]);
-        same(kind, "no number set", list, false)?;
+        same(kind, "no number set", list, len)?;
         for place in 0..len {
             list[place] = random.one_of(&SET);
-            same(kind, "one number set", list, true)?;
+            same(kind, "one number set", list, place)?;
             list[place] = 0;
         }
         for _ in 0..if len > 1 { 4 } else { 0 } {
             let first = random.below(len - 1);
             list[first] = random.one_of(&SET);
             list[first + 1 + random.below(len - 1 - first)] = random.one_of(&SET);
-            same(kind, "several set", list, true)?;
+            same(kind, "several set", list, first)?;
             list.fill(0);
         }
     }
@@ -71,11 +77,11 @@ fn lists(len: usize, random: &mut Random, memory: &mut Guarded, kind: &mut Kind)
 /// All 0, then one set at the first place, at the last, and at some between.
 fn long_lists(len: usize, random: &mut Random, memory: &mut Guarded, kind: &mut Kind) -> Result<(), String> {
     let list = memory.lend(random.one_of(&SIDES), &vec![0; len]);
-    same(kind, "no number set", list, false)?;
+    same(kind, "no number set", list, len)?;
     let some: [usize; 8] = std::array::from_fn(|_| random.below(len));
     for place in [0, len / 2, len - 1].into_iter().chain(some) {
         list[place] = random.one_of(&SET);
-        same(kind, "one number set", list, true)?;
+        same(kind, "one number set", list, place)?;
         list[place] = 0;
     }
     Ok(())
@@ -85,9 +91,8 @@ fn long_lists(len: usize, random: &mut Random, memory: &mut Guarded, kind: &mut 
 fn records(random: &mut Random, memory: &mut Guarded, kind: &mut Kind) -> Result<(), String> {
     let mut compare = |class: &str, coeffs: &MbCoeffs| {
         let flat = flatten(coeffs);
-        SIDES
-            .into_iter()
-            .try_for_each(|side| same(kind, class, memory.lend(side, &flat), oracle::mb_has_coeffs(coeffs)))
+        let place = by_the_rust(&flat);
+        SIDES.into_iter().try_for_each(|side| same(kind, class, memory.lend(side, &flat), place))
     };
     compare("no number set", &MbCoeffs::default())?;
     for index in 0..400 {
@@ -110,7 +115,28 @@ fn records(random: &mut Random, memory: &mut Guarded, kind: &mut Kind) -> Result
     compare("in y2 and v", &two)
 }
 
-/// A call on a list of any length with some numbers set. The Rust answers for one of 400, the number of a record.
+/// Lists that go on in an unreadable page right after the first number that is not 0: whoever looks further ends the run.
+fn unreadable_after(place: usize, random: &mut Random, memory: &mut Guarded, kind: &mut Kind) -> Result<(), String> {
+    let mut list = vec![0; place + 1];
+    list[place] = random.one_of(&SET);
+    let list = memory.lend(Side::End, &list).as_ptr();
+    for len in [place + 2, 2 * place + 2, place + 400, 1 << 20, isize::MAX as usize / 2] {
+        let what =
+            format_args!("  a list of {len} numbers, of which {} are memory: {place} of 0, and one set", place + 1);
+        // SAFETY: less may be read than the functions are told. They read what may be read, or a fault ends the run.
+        let answer =
+            guard::calling(&what, || unsafe { (vp8lf_mb_has_coeffs(list, len), vp8lf_first_coeff(list, len)) });
+        kind.add_cases(1);
+        kind.add_class("one number set", 1);
+        if answer != (true, place) {
+            return Err(format!("\n{what}\n  expected (true, {place}), library {answer:?} (the test, the place)"));
+        }
+    }
+    Ok(())
+}
+
+/// A call of each function on a list of any length with some numbers set. The Rust answers for one of 400, the number of
+/// a record.
 pub fn drawer() -> Draw {
     let mut memory = Guarded::new(LONGEST * size_of::<i16>());
     Box::new(move |random, calls| {
@@ -120,16 +146,24 @@ pub fn drawer() -> Draw {
         for _ in 0..if len > 0 { random.one_of(&[0, 0, 1, 1, 2, 400]) } else { 0 } {
             list[random.below(len)] = random.one_of(&SET);
         }
-        let expected = match len {
-            400 => oracle::mb_has_coeffs(&record(&list)),
-            _ => list.iter().any(|number| *number != 0),
+        let place = match len {
+            400 => by_the_rust(&list),
+            _ => list.iter().position(|number| *number != 0).unwrap_or(len),
         };
         calls.add("mb_has_coeffs", 0);
-        check(memory.lend(random.one_of(&SIDES), &list), expected)
+        calls.add("first_coeff", 0);
+        check(memory.lend(random.one_of(&SIDES), &list), place)
     })
 }
 
-/// The record whose 400 numbers are these.
+/// How many of 400 numbers stand before the first that is not 0: the Rust's test finds none in these alone, and one in
+/// these with the next.
+fn by_the_rust(list: &[i16]) -> usize {
+    let counts: [usize; 400] = std::array::from_fn(|before| before + 1);
+    counts.partition_point(|count| !oracle::mb_has_coeffs(&record(&list[..*count])))
+}
+
+/// The record whose first numbers are these, and whose others are 0.
 fn record(list: &[i16]) -> MbCoeffs {
     let mut record = MbCoeffs::default();
     let MbCoeffs { y2, y, u, v, .. } = &mut record;
@@ -142,23 +176,24 @@ fn flatten(coeffs: &MbCoeffs) -> Vec<i16> {
     [&coeffs.y2[..], coeffs.y.as_flattened(), coeffs.u.as_flattened(), coeffs.v.as_flattened()].concat()
 }
 
-fn same(kind: &mut Kind, class: &str, list: &[i16], expected: bool) -> Result<(), String> {
+fn same(kind: &mut Kind, class: &str, list: &[i16], place: usize) -> Result<(), String> {
     kind.add_cases(1);
     kind.add_class(class, 1);
-    check(list, expected)
+    check(list, place)
 }
 
-fn check(list: &[i16], expected: bool) -> Result<(), String> {
-    let what = format_args!("  mb_has_coeffs on a list of {} numbers", list.len());
+/// Calls both functions on a list whose first number that is not 0 stands at this place.
+fn check(list: &[i16], place: usize) -> Result<(), String> {
+    let what = format_args!("  mb_has_coeffs and first_coeff on a list of {} numbers", list.len());
     let before = list.to_vec();
-    let answer = guard::calling(&what, || ffi::mb_has_coeffs(list));
+    let answer = guard::calling(&what, || (ffi::mb_has_coeffs(list), ffi::first_coeff(list)));
+    let expected = (place < list.len(), place);
     if answer == expected && list == before {
         return Ok(());
     }
-    let left = if list == before { String::new() } else { format!(", and leaves it all 0 but {:?}", set(list)) };
+    let left = if list == before { String::new() } else { format!(", which are left all 0 but {:?}", set(list)) };
     Err(format!(
-        "mb_has_coeffs on a list of {} numbers, all 0 but {:?} (place, number): expected {expected}, library {answer}{left}",
-        list.len(),
+        "\n{what}, all 0 but {:?} (place, number){left}\n  expected {expected:?}, library {answer:?} (the test, the place)",
         set(&before)
     ))
 }

@@ -11,7 +11,7 @@ use std::time::{Duration, Instant, SystemTime, UNIX_EPOCH};
 
 /// The functions of the header in its order, without `vp8lf_`, and the numbers that each can refuse a call with. The
 /// largest grid's sum is far below 64 bits, so 10 cannot come.
-const ENTRIES: [(&str, &[u8]); 24] = [
+const ENTRIES: [(&str, &[u8]); 25] = [
     ("clamp_s8", &[]),
     ("u2s", &[]),
     ("s2u", &[]),
@@ -24,6 +24,7 @@ const ENTRIES: [(&str, &[u8]); 24] = [
     ("calculate_mb_filter_level", &[6]),
     ("calculate_mb_filter_level_inter", &[6]),
     ("mb_has_coeffs", &[]),
+    ("first_coeff", &[]),
     ("filter_frame", &[1, 2, 3, 5, 6, 7]),
     ("filter_inter_frame", &[1, 2, 3, 5, 6, 7]),
     ("loop_filter_frame", &[1, 2, 3, 5, 6, 7]),

@@ -35,7 +35,7 @@ pub fn compare(plan: &Plan, tally: &mut Tally) {
         tally.run(&format!("{name}, above 2^32 bytes"), &KERNELS, |kind| kernels(kernel, &mut random, &mut vast, kind));
     }
     tally.run("interior_limits, 2^32 bytes and more", &["short in 32 bits"], |kind| table(&mut vast, kind));
-    tally.run("mb_has_coeffs, 2^32 numbers and more", &["first number set"], |kind| coefficients(&mut vast, kind));
+    tally.run("coefficients, 2^32 numbers and more", &["one number set"], |kind| coefficients(plan, &mut vast, kind));
     for pass in PASSES {
         let classes = [&PLANES[..], &[LIST]].concat();
         for filter in [pass.into(), Filter::frame_call(pass)] {
@@ -111,18 +111,21 @@ fn table(vast: &mut Guarded, kind: &mut Kind) -> Result<(), String> {
     Ok(())
 }
 
-/// Lengths that are 0 and 1 in 32 bits.
-fn coefficients(vast: &mut Guarded, kind: &mut Kind) -> Result<(), String> {
-    for len in [1 << 32, (1 << 32) + 1] {
+/// Lengths that are 0 and 1 in 32 bits, and in a long run a place that is.
+fn coefficients(plan: &Plan, vast: &mut Guarded, kind: &mut Kind) -> Result<(), String> {
+    let quick = [(1 << 32, 0), (1 << 32, 399), ((1 << 32) + 1, 0), ((1 << 32) + 1, 399)];
+    let long = [((1 << 32) + 1, 1 << 32), ((1 << 32) + 2, (1 << 32) + 1)];
+    for (len, place) in quick.into_iter().chain(long.into_iter().filter(|_| plan.long)) {
         let list: &mut [i16] = vast.all();
-        list[0] = -256;
-        let what = format_args!("  mb_has_coeffs on {len} numbers of which the first is set");
-        let answer = guard::calling(&what, || ffi::mb_has_coeffs(&list[..len]));
-        list[0] = 0;
+        list[place] = -256;
+        let what = format_args!("  mb_has_coeffs and first_coeff on {len} numbers of which number {place} is set");
+        let lent = &list[..len];
+        let answer = guard::calling(&what, || (ffi::mb_has_coeffs(lent), ffi::first_coeff(lent)));
+        list[place] = 0;
         kind.add_cases(1);
-        kind.add_class("first number set", 1);
-        if !answer {
-            return Err(format!("\n{what}\n  expected true, library false"));
+        kind.add_class("one number set", 1);
+        if answer != (true, place) {
+            return Err(format!("\n{what}\n  expected (true, {place}), library {answer:?} (the test, the place)"));
         }
     }
     Ok(())

@@ -359,6 +359,16 @@ fn coded_but_all_zero() {
     }
 }
 
+/// Number 290 is number 2 of the second block of u, number 350 number 14 of the first block of v.
+#[test]
+fn first_coefficient() {
+    let (mut coeffs, mut flat) = (MbCoeffs::default(), [0; 400]);
+    assert_eq!((oracle::mb_has_coeffs(&coeffs), entries::first_coeff(&flat)), (false, 400));
+    (coeffs.u[1][2], flat[290]) = (-7, -7);
+    (coeffs.v[0][14], flat[350]) = (1, 1);
+    assert_eq!((oracle::mb_has_coeffs(&coeffs), entries::first_coeff(&flat)), (true, 290));
+}
+
 #[test]
 fn key_mark_in_the_inter_pass() {
     let mut picture = Picture::new(2, 1);

@@ -542,6 +542,27 @@ fn table_of_interior_limits() {
     }
 }
 
+/// The coefficients of a macroblock are counted in the order y2, y, u, v. With all from some place on set, the first of
+/// them stands there; the Rust's test finds it.
+#[test]
+fn first_coefficients() {
+    let mut coeffs = here::MbCoeffs::default();
+    for place in (0..=400).rev() {
+        let here::MbCoeffs { y2, y, u, v } = &mut coeffs;
+        match place {
+            0..16 => y2[place] = -1,
+            16..272 => y[(place - 16) / 16][place % 16] = i16::MIN,
+            272..336 => u[(place - 272) / 16][place % 16] = 256,
+            336..400 => v[(place - 336) / 16][place % 16] = i16::MAX,
+            _ => {}
+        }
+        let here::MbCoeffs { y2, y, u, v } = coeffs;
+        let has = oracle::mb_has_coeffs(&oracle::MbCoeffs { y2, y, u, v });
+        assert_eq!((here::first_coeff(&coeffs), here::mb_has_coeffs(&coeffs)), (place, has));
+        assert_eq!(has, place < 400);
+    }
+}
+
 #[test]
 fn constants() {
     use oracle::loop_filter as old;

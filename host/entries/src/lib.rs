@@ -9,7 +9,7 @@ use vp8_loop_filter::{Planes, PlanesMut, Scratch, SourcePlanes};
 pub use rules::Layout;
 
 pub use lent::{
-    Form, clamp_s8, common_adjust, derive, interior_limits, mb_filter, mb_has_coeffs, s2u, simple_segment,
+    Form, clamp_s8, common_adjust, derive, first_coeff, interior_limits, mb_filter, mb_has_coeffs, s2u, simple_segment,
     subblock_filter, u2s,
 };
 

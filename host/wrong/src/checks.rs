@@ -6,7 +6,7 @@ use std::io::{BufRead, BufReader};
 use std::process::{Command, Stdio};
 
 /// The modules of `compare` to try first, for functions whose names begin so.
-const MODULES: [(&str, &[&str]); 17] = [
+const MODULES: [(&str, &[&str]); 18] = [
     ("vp8lf_clamp_s8", &["numbers"]),
     ("vp8lf_u2s", &["numbers"]),
     ("vp8lf_s2u", &["numbers"]),
@@ -18,6 +18,7 @@ const MODULES: [(&str, &[&str]); 17] = [
     ("vp8lf_mb_filter", &["slices", "vast", "kernels"]),
     ("vp8lf_calculate_mb_filter_level", &["levels"]),
     ("vp8lf_mb_has_coeffs", &["coefficients", "vast"]),
+    ("vp8lf_first_coeff", &["coefficients", "vast"]),
     ("vp8lf_filter", &["refusals", "grids", "vast", "table", "passes", "halting"]),
     ("vp8lf_loop_filter", &["frames", "vast"]),
     ("vp8lf_final_rows", &["final_rows"]),

@@ -164,6 +164,13 @@ unsafe extern "C" {
     /// `coeffs` points to `coeffs_len` numbers that may be read.
     pub fn vp8lf_mb_has_coeffs(coeffs: *const i16, coeffs_len: usize) -> bool;
 
+    /// The place, from 0, of the first coefficient that is not 0, or `coeffs_len` if all are 0.
+    ///
+    /// # Safety
+    ///
+    /// `coeffs` points to `coeffs_len` numbers that may be read.
+    pub fn vp8lf_first_coeff(coeffs: *const i16, coeffs_len: usize) -> usize;
+
     /// The pass of a key frame. Refusals 1, 2, 3, 5, 6 and 7.
     ///
     /// # Safety

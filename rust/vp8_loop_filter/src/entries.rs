@@ -90,6 +90,12 @@ pub fn mb_has_coeffs(coeffs: &[i16]) -> bool {
     unsafe { sys::vp8lf_mb_has_coeffs(coeffs, len) }
 }
 
+pub fn first_coeff(coeffs: &[i16]) -> usize {
+    let (coeffs, len) = lend(coeffs);
+    // SAFETY: the slice's own pointer and length.
+    unsafe { sys::vp8lf_first_coeff(coeffs, len) }
+}
+
 /// Calls a C function that takes the settings of a frame as numbers. They stand where the `;` is.
 macro_rules! with_settings {
     ($entry:ident, $config:expr, [$($before:expr),*; $($after:expr),*]) => {{

@@ -1,4 +1,5 @@
-//! The level of a macroblock (RFC 6386, sections 9.3, 9.4 and 20.6), and the coefficient test.
+//! The level of a macroblock (RFC 6386, sections 9.3, 9.4 and 20.6), the coefficient test, and the first coefficient's
+//! place.
 
 use crate::config::FrameFilterConfig;
 use crate::entries;
@@ -40,8 +41,36 @@ pub fn calculate_mb_filter_level_inter(
     level
 }
 
+/// The coefficients of a macroblock in the order y2, y, u, v.
+fn parts(coeffs: &MbCoeffs) -> [&[i16]; 4] {
+    let MbCoeffs { y2, y, u, v } = coeffs;
+    [y2, y.as_flattened(), u.as_flattened(), v.as_flattened()]
+}
+
 /// Whether any coefficient of a macroblock is not 0.
 pub fn mb_has_coeffs(coeffs: &MbCoeffs) -> bool {
-    let MbCoeffs { y2, y, u, v } = coeffs;
-    [y2, y.as_flattened(), u.as_flattened(), v.as_flattened()].into_iter().any(entries::mb_has_coeffs)
+    parts(coeffs).into_iter().any(entries::mb_has_coeffs)
+}
+
+/// The place, 0 to 399, of the first coefficient of a macroblock that is not 0, counted in the order y2 (16), y (256),
+/// u (64), v (64); 400 if all are 0. [`mb_has_coeffs`] says whether it is below 400.
+///
+/// ```
+/// use vp8_loop_filter::{MbCoeffs, first_coeff};
+///
+/// let mut coeffs = MbCoeffs::default();
+/// assert_eq!(first_coeff(&coeffs), 400);
+/// coeffs.u[1][2] = -7;
+/// assert_eq!(first_coeff(&coeffs), 16 + 256 + 16 + 2);
+/// ```
+pub fn first_coeff(coeffs: &MbCoeffs) -> usize {
+    let mut passed = 0;
+    for part in parts(coeffs) {
+        let place = entries::first_coeff(part);
+        passed += place;
+        if place < part.len() {
+            break;
+        }
+    }
+    passed
 }

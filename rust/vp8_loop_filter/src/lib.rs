@@ -43,7 +43,7 @@ pub use kernels::{
     FILTER_LEVELS, LoopFilterParams, SHARPNESS_LEVELS, clamp_s8, common_adjust, interior_limits, mb_filter, s2u,
     simple_segment, subblock_filter, u2s,
 };
-pub use levels::{calculate_mb_filter_level, calculate_mb_filter_level_inter, mb_has_coeffs};
+pub use levels::{calculate_mb_filter_level, calculate_mb_filter_level_inter, first_coeff, mb_has_coeffs};
 pub use macroblock::{InterFilterInfo, InterMode, IntraYMode, MacroblockModes, MbCoeffs, RefFrame};
 pub use passes::{
     Done, FinalRows, filter_frame, filter_frame_flags, filter_frame_from, filter_inter_frame, filter_inter_frame_flags,

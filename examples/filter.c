@@ -14,9 +14,10 @@ enum { COLUMNS = 3, ROWS = 2, Y_STRIDE = 16 * COLUMNS, UV_STRIDE = 8 * COLUMNS }
 
 static uint8_t y[16 * ROWS * Y_STRIDE], u[8 * ROWS * UV_STRIDE], v[8 * ROWS * UV_STRIDE];
 
-/* What went down the line: rows of luma, and rows of each chroma plane. */
+/* What went down the line: rows of luma, and rows of each chroma plane. And how many positions were smoothed. */
 static uint8_t sent_y[sizeof y];
 static struct vp8lf_rows sent;
+static size_t smoothed;
 
 /* Stands for the decoder: macroblocks of 100, 108 and 100 side by side, grey chroma. */
 static void decode(void)
@@ -27,14 +28,15 @@ static void decode(void)
     memset(v, 128, sizeof v);
 }
 
-/* Sends the rows that are final and not yet sent. */
-static void send_down(struct vp8lf_rows final)
+/* Sends the rows that are final and not yet sent, and tells how many positions the call smoothed. */
+static void send_down(struct vp8lf_rows final, size_t part)
 {
     size_t from = sent.luma * Y_STRIDE, to = final.luma * Y_STRIDE;
     memcpy(sent_y + from, y + from, to - from);
-    printf("luma rows %zu to %zu and chroma rows %zu to %zu are final\n", sent.luma, final.luma, sent.chroma,
-           final.chroma);
+    printf("luma rows %zu to %zu and chroma rows %zu to %zu are final, %zu positions smoothed\n", sent.luma, final.luma,
+           sent.chroma, final.chroma, part);
     sent = final;
+    smoothed += part;
 }
 
 static uint8_t filter(void)
@@ -53,7 +55,7 @@ static uint8_t filter(void)
             refusal = vp8lf_rows_final(&planes, done.next, &final);
         if (refusal != VP8LF_OK)
             return refusal;                     /* vp8lf_refusal_text says why; nothing has changed */
-        send_down(final);                       /* these rows will not change any more */
+        send_down(final, done.smoothed);        /* these rows will not change any more */
     }
     /* README: to here */
     return VP8LF_OK;
@@ -93,6 +95,9 @@ int main(void)
         printf(" %d", sent_y[i]);
     printf("\n");
     if (sent.luma != 16 * ROWS || sent.chroma != 8 * ROWS || memcmp(sent_y, y, sizeof y) != 0)
+        return 1;
+    /* All positions of the four left and the three top edges: 16 in luma, 8 in each chroma plane. */
+    if (smoothed != 7 * (16 + 8 + 8))
         return 1;
     return memcmp(sent_y + 12, smooth, sizeof smooth) == 0 ? 0 : 1;
 }

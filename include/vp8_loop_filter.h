@@ -93,7 +93,12 @@ void vp8lf_derive(uint8_t loop_filter_level, uint8_t sharpness_level, bool key_f
  */
 size_t vp8lf_interior_limits(uint8_t *limits, size_t limits_len);
 
-/* Kernels on one window (RFC 6386, sections 15.2 and 15.3). Each can be refused with VP8LF_NO_WINDOW only. */
+/*
+ * Kernels on one window (RFC 6386, sections 15.2 and 15.3). Each can be refused with VP8LF_NO_WINDOW only.
+ *
+ * The last three have a test, and write to *passed whether it passed: 1, or 0 if the window was left alone. A window
+ * whose test passes may come out as it was.
+ */
 
 /*
  * Moves p0 and q0 of a window of four bytes towards each other, and writes what q0 lost to *adjustment. The outer
@@ -102,15 +107,15 @@ size_t vp8lf_interior_limits(uint8_t *limits, size_t limits_len);
 uint8_t vp8lf_common_adjust(bool use_outer_taps, uint8_t *seg, size_t seg_len, size_t base, int32_t *adjustment);
 
 /* The simple filter on a window of four bytes: changes at most p0 and q0. */
-uint8_t vp8lf_simple_segment(uint8_t edge_limit, uint8_t *seg, size_t seg_len, size_t base);
+uint8_t vp8lf_simple_segment(uint8_t edge_limit, uint8_t *seg, size_t seg_len, size_t base, uint8_t *passed);
 
 /* The normal filter of an inner edge on a window of eight bytes: changes at most p1 to q1. */
 uint8_t vp8lf_subblock_filter(uint8_t hev_threshold, uint8_t interior_limit, uint8_t edge_limit, uint8_t *seg,
-                              size_t seg_len, size_t base);
+                              size_t seg_len, size_t base, uint8_t *passed);
 
 /* The normal filter of a macroblock edge on a window of eight bytes: changes at most p2 to q2. */
 uint8_t vp8lf_mb_filter(uint8_t hev_threshold, uint8_t interior_limit, uint8_t edge_limit, uint8_t *seg,
-                        size_t seg_len, size_t base);
+                        size_t seg_len, size_t base, uint8_t *passed);
 
 /*
  * Levels (RFC 6386, sections 9.3, 9.4 and 20.6).
@@ -186,8 +191,13 @@ size_t vp8lf_first_coeff(const int16_t *coeffs, size_t coeffs_len);
  *
  * A call filters the macroblocks start, start + 1 and so on in raster order, as many as allowance says or as are left.
  * It writes how many it did to *count, and the start to go on from to *next. A macroblock of level 0 counts as done.
- * A call with zero columns or rows does nothing, whatever its other arguments: *count and *next are 0.
+ * A call with zero columns or rows does nothing, whatever its other arguments: *count, *next and *smoothed are 0.
  * A start equal to mb_cols x mb_rows is accepted, with none left to do.
+ *
+ * It writes to *smoothed how many positions it smoothed. A position is one segment across an edge, 16 of them to an edge
+ * of y and 8 to one of u or v. It counts if its kernel's test passes on the samples as they are when its turn comes, also
+ * if they come out as they were. That is the call's own part: at most 192 for each macroblock done (128 in y, 32 in each
+ * of u and v), and 0 for one of level 0. The parts of calls that go on from each other add up to what one call tells.
  *
  * Other calls can be refused, in this order: VP8LF_GRID_TOO_LARGE, VP8LF_BAD_STRIDE, VP8LF_SHORT_PLANE,
  * VP8LF_WRONG_LENGTH, VP8LF_BAD_ENTRY (anywhere in the lists, also where the call does no macroblock),
@@ -208,7 +218,8 @@ uint8_t vp8lf_filter_frame(uint8_t *y, size_t y_len, uint8_t *u, size_t u_len, u
                            int16_t segment_level_3, bool delta_enabled, int16_t ref_delta_current,
                            int16_t bpred_mode_delta, int16_t ref_delta_last, int16_t ref_delta_golden,
                            int16_t ref_delta_altref, int16_t zero_mv_mode_delta, int16_t other_mv_mode_delta,
-                           int16_t split_mv_mode_delta, size_t start, size_t allowance, size_t *count, size_t *next);
+                           int16_t split_mv_mode_delta, size_t start, size_t allowance, size_t *count, size_t *next,
+                           size_t *smoothed);
 
 /* The pass of an inter frame. */
 uint8_t vp8lf_filter_inter_frame(uint8_t *y, size_t y_len, uint8_t *u, size_t u_len, uint8_t *v, size_t v_len,
@@ -223,7 +234,7 @@ uint8_t vp8lf_filter_inter_frame(uint8_t *y, size_t y_len, uint8_t *u, size_t u_
                                  int16_t bpred_mode_delta, int16_t ref_delta_last, int16_t ref_delta_golden,
                                  int16_t ref_delta_altref, int16_t zero_mv_mode_delta, int16_t other_mv_mode_delta,
                                  int16_t split_mv_mode_delta, size_t start, size_t allowance, size_t *count,
-                                 size_t *next);
+                                 size_t *next, size_t *smoothed);
 
 /*
  * Frame calls: the passes, turned off by the frame header.
@@ -232,10 +243,10 @@ uint8_t vp8lf_filter_inter_frame(uint8_t *y, size_t y_len, uint8_t *u, size_t u_
  * do not test that level, as the Rust that they replace does not: where a delta or a segment's level lifts a macroblock
  * above 0, they filter it.
  *
- * With loop_filter_level 0 a frame call changes no sample; with any other, 64 too, it does what the pass does. It is
- * refused as the pass is, before anything is skipped. Macroblocks that are skipped count as done, so *count and *next are
- * the pass's too, and vp8lf_final_rows counts rows as it does for the pass. What is said of a pass elsewhere in this header
- * holds of a frame call.
+ * With loop_filter_level 0 a frame call changes no sample, and *smoothed is 0; with any other, 64 too, it does what the
+ * pass does. It is refused as the pass is, before anything is skipped. Macroblocks that are skipped count as done, so
+ * *count and *next are the pass's too, and vp8lf_final_rows counts rows as it does for the pass. What is said of a pass
+ * elsewhere in this header holds of a frame call.
  */
 
 /* The frame call of a key frame. */
@@ -249,7 +260,7 @@ uint8_t vp8lf_loop_filter_frame(uint8_t *y, size_t y_len, uint8_t *u, size_t u_l
                                 int16_t ref_delta_current, int16_t bpred_mode_delta, int16_t ref_delta_last,
                                 int16_t ref_delta_golden, int16_t ref_delta_altref, int16_t zero_mv_mode_delta,
                                 int16_t other_mv_mode_delta, int16_t split_mv_mode_delta, size_t start,
-                                size_t allowance, size_t *count, size_t *next);
+                                size_t allowance, size_t *count, size_t *next, size_t *smoothed);
 
 /* The frame call of an inter frame. */
 uint8_t vp8lf_loop_filter_inter_frame(uint8_t *y, size_t y_len, uint8_t *u, size_t u_len, uint8_t *v, size_t v_len,
@@ -264,7 +275,7 @@ uint8_t vp8lf_loop_filter_inter_frame(uint8_t *y, size_t y_len, uint8_t *u, size
                                       int16_t bpred_mode_delta, int16_t ref_delta_last, int16_t ref_delta_golden,
                                       int16_t ref_delta_altref, int16_t zero_mv_mode_delta,
                                       int16_t other_mv_mode_delta, int16_t split_mv_mode_delta, size_t start,
-                                      size_t allowance, size_t *count, size_t *next);
+                                      size_t allowance, size_t *count, size_t *next, size_t *smoothed);
 
 /*
  * Writes how many rows of samples, from the top, are final once the macroblocks before start are done: of y to *luma,
@@ -501,9 +512,9 @@ struct vp8lf_scratch {
     size_t y_len, u_len, v_len;
 };
 
-/* How many macroblocks a call did, and the start to go on from. */
+/* How many macroblocks a call did, the start to go on from, and how many positions the call smoothed. */
 struct vp8lf_done {
-    size_t count, next;
+    size_t count, next, smoothed;
 };
 
 /* Rows of samples, from the top: of y, and of u and of v. */
@@ -598,7 +609,7 @@ static inline uint8_t vp8lf_filter(struct vp8lf_planes *planes, const struct vp8
                                    struct vp8lf_done *done)
 {
     return vp8lf_filter_frame(VP8LF_PLANES(planes), VP8LF_GRID(planes), VP8LF_LISTS(lists), VP8LF_SETTINGS(settings),
-                              start, allowance, &done->count, &done->next);
+                              start, allowance, &done->count, &done->next, &done->smoothed);
 }
 
 /* vp8lf_filter_inter_frame, which writes the planes. */
@@ -607,7 +618,8 @@ static inline uint8_t vp8lf_filter_inter(struct vp8lf_planes *planes, const stru
                                          struct vp8lf_done *done)
 {
     return vp8lf_filter_inter_frame(VP8LF_PLANES(planes), VP8LF_GRID(planes), VP8LF_INTER_LISTS(lists),
-                                    VP8LF_SETTINGS(settings), start, allowance, &done->count, &done->next);
+                                    VP8LF_SETTINGS(settings), start, allowance, &done->count, &done->next,
+                                    &done->smoothed);
 }
 
 /* vp8lf_loop_filter_frame, which writes the planes. */
@@ -616,7 +628,8 @@ static inline uint8_t vp8lf_loop_filter(struct vp8lf_planes *planes, const struc
                                         struct vp8lf_done *done)
 {
     return vp8lf_loop_filter_frame(VP8LF_PLANES(planes), VP8LF_GRID(planes), VP8LF_LISTS(lists),
-                                   VP8LF_SETTINGS(settings), start, allowance, &done->count, &done->next);
+                                   VP8LF_SETTINGS(settings), start, allowance, &done->count, &done->next,
+                                   &done->smoothed);
 }
 
 /* vp8lf_loop_filter_inter_frame, which writes the planes. */
@@ -625,7 +638,8 @@ static inline uint8_t vp8lf_loop_filter_inter(struct vp8lf_planes *planes, const
                                               struct vp8lf_done *done)
 {
     return vp8lf_loop_filter_inter_frame(VP8LF_PLANES(planes), VP8LF_GRID(planes), VP8LF_INTER_LISTS(lists),
-                                         VP8LF_SETTINGS(settings), start, allowance, &done->count, &done->next);
+                                         VP8LF_SETTINGS(settings), start, allowance, &done->count, &done->next,
+                                         &done->smoothed);
 }
 
 /* vp8lf_final_rows, which reads the grid alone: a picture whose strides or planes are refused elsewhere is answered. */

@@ -121,24 +121,36 @@ static void common_adjust(void)
     expect(memcmp(seg, take(16), 16) == 0, "the samples");
 }
 
+/* A refused call leaves the byte, which was 77. What changes has passed its test. */
+static bool tells(uint8_t refusal, uint8_t passed, const uint8_t before[16], const uint8_t after[16])
+{
+    if (refusal != 0)
+        return passed == 77;
+    return passed == 1 || (passed == 0 && memcmp(before, after, 16) == 0);
+}
+
 static void simple_segment(void)
 {
-    uint8_t limit = byte(), seg[16];
+    uint8_t limit = byte(), seg[16], before[16], passed = 77;
     size_t base = size();
     uint8_t refusal = byte();
     memcpy(seg, take(16), 16);
-    expect(vp8lf_simple_segment(limit, seg, 16, base) == refusal, "the refusal");
+    memcpy(before, seg, 16);
+    expect(vp8lf_simple_segment(limit, seg, 16, base, &passed) == refusal, "the refusal");
     expect(memcmp(seg, take(16), 16) == 0, "the samples");
+    expect(tells(refusal, passed, before, seg), "whether the test passed");
 }
 
-static void normal(uint8_t (*kernel)(uint8_t, uint8_t, uint8_t, uint8_t *, size_t, size_t))
+static void normal(uint8_t (*kernel)(uint8_t, uint8_t, uint8_t, uint8_t *, size_t, size_t, uint8_t *))
 {
     const uint8_t *limits = take(3);
     size_t base = size();
-    uint8_t refusal = byte(), seg[16];
+    uint8_t refusal = byte(), seg[16], before[16], passed = 77;
     memcpy(seg, take(16), 16);
-    expect(kernel(limits[0], limits[1], limits[2], seg, 16, base) == refusal, "the refusal");
+    memcpy(before, seg, 16);
+    expect(kernel(limits[0], limits[1], limits[2], seg, 16, base, &passed) == refusal, "the refusal");
     expect(memcmp(seg, take(16), 16) == 0, "the samples");
+    expect(tells(refusal, passed, before, seg), "whether the test passed");
 }
 
 static void subblock_filter(void)
@@ -285,18 +297,22 @@ static void call_pass(bool frame_call, bool inter, const struct frame *f, size_t
 {
     static uint8_t before[3][4096], came[3][4096];
     struct frame beside = *f;
-    size_t count = 77, next = 78, beside_count = 77, beside_next = 78;
+    size_t count = 77, next = 78, smoothed = 79, beside_count = 77, beside_next = 78, beside_smoothed = 79;
     memcpy(before, planes, sizeof before);
     memcpy(came, planes, sizeof came);
     for (int p = 0; p < 3; p++)
         beside.planes[p] = came[p];
-    uint8_t refusal = run_pass(frame_call, inter, f, start, allowance, &count, &next);
+    uint8_t refusal = run_pass(frame_call, inter, f, start, allowance, &count, &next, &smoothed);
     same_answer(refusal, count, next);
+    expect(refusal ? smoothed == 79 : smoothed <= 192 * count, "the positions smoothed");
+    expect(refusal || smoothed > 0 || memcmp(before, planes, sizeof before) == 0, "none smoothed where samples change");
     if (frame_call)
         return;
-    expect(run_pass(true, inter, &beside, start, allowance, &beside_count, &beside_next) == refusal,
+    expect(run_pass(true, inter, &beside, start, allowance, &beside_count, &beside_next, &beside_smoothed) == refusal,
            "the refusal of the frame call beside it");
     expect(beside_count == count && beside_next == next, "a number of the frame call beside it");
+    expect(beside_smoothed == (refusal == 0 && f->settings.level == 0 ? 0 : smoothed),
+           "the positions smoothed by the frame call beside it");
     expect(memcmp(came, f->settings.level == 0 ? before : planes, sizeof came) == 0,
            "the samples of the frame call beside it");
 }

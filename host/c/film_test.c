@@ -2,7 +2,8 @@
  * film_test FILM.vplf: filters each frame of a film (host/film/README.md has the format) and holds it to the recorded
  * result: in one call, row by row, and seven macroblocks a call, by the pass and by the frame call. Between two calls
  * one that is refused changes nothing, and the rows that are final are already the result's. A frame call leaves a
- * frame alone whose header turns the filter off. How many such frames the pass filters is printed.
+ * frame alone whose header turns the filter off. How many such frames the pass filters is printed. However a frame is
+ * cut into calls, their positions smoothed add up to the same; those of the frame calls are printed.
  */
 #include "passes.h"
 
@@ -13,6 +14,8 @@
 enum { HEADER = 64, MACROBLOCK = 6 + 2 * 384 };
 
 static unsigned frames, runs, left_alone, lifted;
+/* Of the frame calls, each frame once. */
+static unsigned long smoothed_in_all;
 static const char *by = "";
 static uint64_t sum = 0xCBF29CE484222325u;
 
@@ -95,11 +98,11 @@ static const uint8_t *result(const struct recorded *r, bool frame_call)
 /* A start behind the last macroblock is refused; nothing changes. The copy is as long as the samples. */
 static void refused_call(const struct recorded *r, bool frame_call, bool inter, uint8_t *copy)
 {
-    size_t count = 77, next = 78;
+    size_t count = 77, next = 78, smoothed = 79;
     memcpy(copy, r->samples, 384 * r->n);
-    if (run_pass(frame_call, inter, &r->frame, r->n + 1, 1, &count, &next) != VP8LF_START_TOO_LARGE)
+    if (run_pass(frame_call, inter, &r->frame, r->n + 1, 1, &count, &next, &smoothed) != VP8LF_START_TOO_LARGE)
         fail("a start behind the last macroblock is not refused");
-    if (count != 77 || next != 78 || memcmp(copy, r->samples, 384 * r->n) != 0)
+    if (count != 77 || next != 78 || smoothed != 79 || memcmp(copy, r->samples, 384 * r->n) != 0)
         fail("a refused call changed something");
 }
 
@@ -117,20 +120,23 @@ static void final_rows(const struct recorded *r, const uint8_t *left, size_t nex
         fail("a row that is final is not the result's");
 }
 
-/* One run over a frame, so many macroblocks a call. */
-static void run(const struct recorded *r, bool frame_call, size_t allowance, uint8_t *copy)
+/* One run over a frame, so many macroblocks a call. Answers how many positions were smoothed. */
+static size_t run(const struct recorded *r, bool frame_call, size_t allowance, uint8_t *copy)
 {
     const uint8_t *left = result(r, frame_call);
     bool inter = !r->frame.settings.key_frame;
-    size_t count = 0, next = 0;
+    size_t count = 0, next = 0, smoothed = 0, total = 0;
     by = frame_call ? ", by the frame call" : ", by the pass";
     memcpy(r->samples, r->before, 384 * r->n);
     while (next < r->n) {
         size_t start = next, due = r->n - start < allowance ? r->n - start : allowance;
-        if (run_pass(frame_call, inter, &r->frame, start, allowance, &count, &next) != VP8LF_OK)
+        if (run_pass(frame_call, inter, &r->frame, start, allowance, &count, &next, &smoothed) != VP8LF_OK)
             fail("refused");
         if (count != due || next != start + due)
             fail("another number of macroblocks was done");
+        if (smoothed > 192 * count || (smoothed > 0 && left == r->before))
+            fail("more positions smoothed than there are, or in a frame that is left alone");
+        total += smoothed;
         refused_call(r, frame_call, inter, copy);
         final_rows(r, left, next);
     }
@@ -139,6 +145,7 @@ static void run(const struct recorded *r, bool frame_call, size_t allowance, uin
         fail("another result than the recorded one");
     runs++;
     by = "";
+    return total;
 }
 
 /* Filters the first frame of the bytes, and answers its length. */
@@ -149,9 +156,10 @@ static size_t filter(const uint8_t *bytes, size_t left)
     if (copy == NULL)
         fail("no memory");
     for (int frame_call = 0; frame_call < 2; frame_call++) {
-        run(&r, frame_call == 1, r.n, copy);
-        run(&r, frame_call == 1, r.frame.columns, copy);
-        run(&r, frame_call == 1, 7, copy);
+        size_t smoothed = run(&r, frame_call == 1, r.n, copy);
+        if (run(&r, frame_call == 1, r.frame.columns, copy) != smoothed || run(&r, frame_call == 1, 7, copy) != smoothed)
+            fail("the positions smoothed do not add up");
+        smoothed_in_all += frame_call == 1 ? smoothed : 0;
     }
     left_alone += r.turned_off;
     lifted += r.turned_off && memcmp(r.before, r.after, 384 * r.n) != 0;
@@ -185,7 +193,8 @@ int main(int argc, char **argv)
         at += filter(bytes + at, len - at);
     free(bytes);
     printf("film: %u frames, %u runs, all equal; frame calls left %u frames alone, %u of them filtered by the pass; "
-           "sum %08lx%08lx\n",
-           frames, runs, left_alone, lifted, (unsigned long)(sum >> 32), (unsigned long)(sum & 0xFFFFFFFFu));
+           "%lu positions smoothed; sum %08lx%08lx\n",
+           frames, runs, left_alone, lifted, smoothed_in_all, (unsigned long)(sum >> 32),
+           (unsigned long)(sum & 0xFFFFFFFFu));
     return 0;
 }

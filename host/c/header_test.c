@@ -1,7 +1,7 @@
 /*
  * Compiles against include/vp8_loop_filter.h and calls each function: the bench figures A to O of document 01, the
- * ends of the numbers, every refusal, NULL with length 0, the frame calls against the passes, and the functions over
- * structs against those of the library.
+ * ends of the numbers, every refusal, NULL with length 0, positions smoothed, the frame calls against the passes, and the
+ * functions over structs against those of the library.
  */
 #include "vp8_loop_filter.h"
 
@@ -93,12 +93,33 @@ static void table_of_limits(void)
     check("no buffer", 0, (long long)vp8lf_interior_limits(NULL, 0));
 }
 
-static void simple(const char *figure, uint8_t edge_limit, const uint8_t before[4], const uint8_t after[4])
+static void simple(const char *figure, uint8_t edge_limit, const uint8_t before[4], const uint8_t after[4], int test)
 {
-    uint8_t seg[4];
+    uint8_t seg[4], passed = 99;
     memcpy(seg, before, 4);
-    check(figure, VP8LF_OK, vp8lf_simple_segment(edge_limit, seg, 4, 0));
+    check(figure, VP8LF_OK, vp8lf_simple_segment(edge_limit, seg, 4, 0, &passed));
     check_bytes(figure, after, seg, 4);
+    check("whether its test passed", test, passed);
+}
+
+/* The tests of the three kernels at their limits: a window that passes may come out as it was. */
+static void tests_of_windows(void)
+{
+    static const uint8_t flat[8] = {100, 100, 100, 100, 100, 100, 100, 100};
+    static const uint8_t slope[8] = {100, 103, 100, 100, 108, 108, 108, 108};
+    for (int i = 0; i < 6; i++) {
+        /* Flat: passes at limits of 0. The edge test is at 20, the largest difference of neighbours 3. */
+        uint8_t seg[8], passed = 99, edge = i < 2 ? 0 : i < 4 ? 20 : 19, interior = i < 2 ? 0 : i == 3 ? 2 : 3;
+        uint8_t test = i < 3, mb = (uint8_t)(i % 2);
+        memcpy(seg, i < 2 ? flat : slope, 8);
+        check("a kernel", VP8LF_OK,
+              (mb ? vp8lf_mb_filter : vp8lf_subblock_filter)(0, interior, edge, seg, 8, 0, &passed));
+        check("whether its test passed", test, passed);
+        check("whether its bytes change", i == 2, memcmp(seg, i < 2 ? flat : slope, 8) != 0);
+        memcpy(seg, i < 2 ? flat : slope, 8);
+        check("a simple kernel", VP8LF_OK, vp8lf_simple_segment(edge, seg + 2, 4, 0, &passed));
+        check("whether its test passed", i < 4, passed);
+    }
 }
 
 static void windows(void)
@@ -113,18 +134,22 @@ static void windows(void)
     static const uint8_t tooth[4] = {100, 100, 104, 100};
     static const uint8_t j[4] = {100, 101, 102, 100};
     uint8_t seg[10];
+    uint8_t passed = 99;
     int32_t adjustment;
 
-    simple("I, limit 20", 20, step, outer);
-    simple("I, limit 19", 19, step, step);
-    simple("J", 8, tooth, j);
+    simple("I, limit 20", 20, step, outer, 1);
+    simple("I, limit 19", 19, step, step, 0);
+    simple("J", 8, tooth, j, 1);
 
     memcpy(seg, up, 10);
-    check("K", VP8LF_OK, vp8lf_mb_filter(0, 1, 20, seg, 10, 1));
+    check("K", VP8LF_OK, vp8lf_mb_filter(0, 1, 20, seg, 10, 1, &passed));
     check_bytes("K", k, seg, 10);
+    check("whether its test passed", 1, passed);
     memcpy(seg, down, 10);
-    check("L", VP8LF_OK, vp8lf_subblock_filter(0, 1, 20, seg, 10, 1));
+    passed = 99;
+    check("L", VP8LF_OK, vp8lf_subblock_filter(0, 1, 20, seg, 10, 1, &passed));
     check_bytes("L", l, seg, 10);
+    check("whether its test passed", 1, passed);
 
     memcpy(seg, step, 4);
     adjustment = 99;
@@ -138,20 +163,21 @@ static void windows(void)
     check_bytes("its bytes", inner, seg, 4);
 }
 
-/* Every kernel refuses a slice of len bytes at base; the bytes and the out-parameter stay. */
+/* Every kernel refuses a slice of len bytes at base; the bytes and the out-parameters stay. */
 static void refused(size_t len, size_t base)
 {
     static const uint8_t lent[8] = {100, 100, 100, 100, 108, 108, 108, 108};
-    uint8_t seg[8];
+    uint8_t seg[8], passed = 99;
     int32_t adjustment = 99;
     memcpy(seg, lent, 8);
-    check("mb_filter refuses", VP8LF_NO_WINDOW, vp8lf_mb_filter(0, 1, 20, seg, len, base));
-    check("subblock_filter refuses", VP8LF_NO_WINDOW, vp8lf_subblock_filter(0, 1, 20, seg, len, base));
+    check("mb_filter refuses", VP8LF_NO_WINDOW, vp8lf_mb_filter(0, 1, 20, seg, len, base, &passed));
+    check("subblock_filter refuses", VP8LF_NO_WINDOW, vp8lf_subblock_filter(0, 1, 20, seg, len, base, &passed));
     if (len < 4 || base > len - 4) {
-        check("simple_segment refuses", VP8LF_NO_WINDOW, vp8lf_simple_segment(20, seg, len, base));
+        check("simple_segment refuses", VP8LF_NO_WINDOW, vp8lf_simple_segment(20, seg, len, base, &passed));
         check("common_adjust refuses", VP8LF_NO_WINDOW, vp8lf_common_adjust(true, seg, len, base, &adjustment));
         check("the adjustment of a refused call", 99, adjustment);
     }
+    check("the test of a refused call", 99, passed);
     check_bytes("the bytes of a refused call", lent, seg, 8);
 }
 
@@ -240,7 +266,7 @@ struct call {
 };
 
 static const struct call whole = {16 * 32, 8 * 16, 8 * 16, 2, 1, 32, 16, 2, 2, 2, 2, 2, 0, 2};
-static size_t count_out, next_out;
+static size_t count_out, next_out, smoothed_out;
 
 /* Samples that rise by 8 every 4 columns, up to 48, and then fall back. */
 static struct picture sawtooth(void)
@@ -260,19 +286,19 @@ static struct picture sawtooth(void)
 
 static long long key_pass(struct picture *p, struct call c)
 {
-    count_out = next_out = 99;
+    count_out = next_out = smoothed_out = 99;
     return vp8lf_filter_frame(p->y, c.y_len, p->u, c.u_len, p->v, c.v_len, c.mb_cols, c.mb_rows, c.y_stride,
                               c.uv_stride, p->modes, c.modes_len, p->segments, c.segments_len, p->flags, c.flags_len,
-                              AT_63(false), c.start, c.allowance, &count_out, &next_out);
+                              AT_63(false), c.start, c.allowance, &count_out, &next_out, &smoothed_out);
 }
 
 static long long inter_pass(struct picture *p, struct call c)
 {
-    count_out = next_out = 99;
+    count_out = next_out = smoothed_out = 99;
     return vp8lf_filter_inter_frame(p->y, c.y_len, p->u, c.u_len, p->v, c.v_len, c.mb_cols, c.mb_rows, c.y_stride,
                                     c.uv_stride, p->modes, c.modes_len, p->segments, c.segments_len, p->flags,
                                     c.flags_len, p->references, c.references_len, p->inter_modes, c.inter_modes_len,
-                                    AT_63(false), c.start, c.allowance, &count_out, &next_out);
+                                    AT_63(false), c.start, c.allowance, &count_out, &next_out, &smoothed_out);
 }
 
 /* Level 63 for every macroblock at each header level, by its segment or by a delta. */
@@ -282,19 +308,19 @@ static bool by_segments;
 
 static long long key_frame_call(struct picture *p, struct call c)
 {
-    count_out = next_out = 99;
+    count_out = next_out = smoothed_out = 99;
     return vp8lf_loop_filter_frame(p->y, c.y_len, p->u, c.u_len, p->v, c.v_len, c.mb_cols, c.mb_rows, c.y_stride,
                                    c.uv_stride, p->modes, c.modes_len, p->segments, c.segments_len, p->flags,
-                                   c.flags_len, LIFTED, c.start, c.allowance, &count_out, &next_out);
+                                   c.flags_len, LIFTED, c.start, c.allowance, &count_out, &next_out, &smoothed_out);
 }
 
 static long long inter_frame_call(struct picture *p, struct call c)
 {
-    count_out = next_out = 99;
+    count_out = next_out = smoothed_out = 99;
     return vp8lf_loop_filter_inter_frame(p->y, c.y_len, p->u, c.u_len, p->v, c.v_len, c.mb_cols, c.mb_rows,
                                          c.y_stride, c.uv_stride, p->modes, c.modes_len, p->segments, c.segments_len,
                                          p->flags, c.flags_len, p->references, c.references_len, p->inter_modes,
-                                         c.inter_modes_len, LIFTED, c.start, c.allowance, &count_out, &next_out);
+                                         c.inter_modes_len, LIFTED, c.start, c.allowance, &count_out, &next_out, &smoothed_out);
 }
 
 typedef long long (*pass)(struct picture *, struct call);
@@ -315,12 +341,13 @@ static void figure_m(void)
     struct picture p = before;
     for (int header = 0; header < 512; header++) {
         p.flags[0] = 0;
-        count_out = next_out = 99;
+        count_out = next_out = smoothed_out = 99;
         check("M", VP8LF_OK,
               vp8lf_filter_frame(p.y, one.y_len, p.u, one.u_len, p.v, one.v_len, 1, 1, 32, 16, p.modes, 1, p.segments,
                                  1, p.flags, 1, header % 2 == 1, true, (uint8_t)(header / 2), 0, false, false, 0, 0,
-                                 0, 0, false, 0, 0, 0, 0, 0, 0, 0, 0, 0, 1, &count_out, &next_out));
+                                 0, 0, false, 0, 0, 0, 0, 0, 0, 0, 0, 0, 1, &count_out, &next_out, &smoothed_out));
         check("its count", 1, (long long)count_out);
+        check("its positions smoothed", 0, (long long)smoothed_out);
         p.flags[0] = 1;
         check_bytes("its planes", (const uint8_t *)&before, (const uint8_t *)&p, sizeof p);
     }
@@ -331,14 +358,18 @@ static void figures_n_and_o(pass filter)
 {
     struct picture halted = sawtooth(), unbroken = halted, after_one;
     struct call c = whole;
+    size_t total, part;
     check("one unbroken call", VP8LF_OK, filter(&unbroken, c));
     check("its count", 2, (long long)count_out);
     check("its next start", 2, (long long)next_out);
+    total = smoothed_out;
+    check("its positions smoothed, at most 192 a macroblock", true, total > 0 && total <= 2 * 192);
 
     c.allowance = 1;
     check("N, the first call", VP8LF_OK, filter(&halted, c));
     check("its count", 1, (long long)count_out);
     check("its next start", 1, (long long)next_out);
+    part = smoothed_out;
     check("luma columns 0 to 12 are final", true, same_columns(halted.y, unbroken.y, 32, 16, 0, 13));
     check("luma column 13 is not", false, same_columns(halted.y, unbroken.y, 32, 16, 13, 14));
     check("chroma columns 0 to 4 are final", true,
@@ -350,6 +381,7 @@ static void figures_n_and_o(pass filter)
     check("N, the second call", VP8LF_OK, filter(&halted, c));
     check("its count", 1, (long long)count_out);
     check("its next start", 2, (long long)next_out);
+    check("its positions smoothed and those of the first call", (long long)total, (long long)(part + smoothed_out));
     check_bytes("two calls are one", (const uint8_t *)&unbroken, (const uint8_t *)&halted, sizeof halted);
     check("the second changes something", true, memcmp(&after_one, &halted, sizeof halted) != 0);
 
@@ -357,9 +389,27 @@ static void figures_n_and_o(pass filter)
     check("O, start 2", VP8LF_OK, filter(&halted, c));
     check("its count", 0, (long long)count_out);
     check("its next start", 2, (long long)next_out);
+    check("its positions smoothed", 0, (long long)smoothed_out);
     c.start = 3;
     check("O, start 3", VP8LF_START_TOO_LARGE, filter(&halted, c));
     check_bytes("O changes nothing", (const uint8_t *)&unbroken, (const uint8_t *)&halted, sizeof halted);
+}
+
+/* Flat planes: every position passes and no sample changes. The first macroblock has its inner edges alone. */
+static void flat_planes(pass filter)
+{
+    struct picture p = sawtooth(), before;
+    struct call c = whole;
+    memset(p.y, 100, sizeof p.y);
+    memset(p.u, 90, sizeof p.u);
+    memset(p.v, 0, sizeof p.v);
+    before = p;
+    check("flat planes", VP8LF_OK, filter(&p, c));
+    check("their positions smoothed", 128 + 160, (long long)smoothed_out);
+    c.start = c.allowance = 1;
+    check("flat planes from the second macroblock on", VP8LF_OK, filter(&p, c));
+    check("its positions smoothed", 160, (long long)smoothed_out);
+    check_bytes("what they leave", (const uint8_t *)&before, (const uint8_t *)&p, sizeof p);
 }
 
 static void refused_pass(const char *what, long long number, pass filter, struct picture p, struct call c)
@@ -370,6 +420,7 @@ static void refused_pass(const char *what, long long number, pass filter, struct
     if (number != VP8LF_OK) {
         check("the count of a refused call", 99, (long long)count_out);
         check("the next start of a refused call", 99, (long long)next_out);
+        check("the positions smoothed of a refused call", 99, (long long)smoothed_out);
     }
 }
 
@@ -405,6 +456,7 @@ static void refused_passes(pass filter, bool inter)
     refused_pass("a zero grid and all of these", VP8LF_OK, filter, bad, c);
     check("its count", 0, (long long)count_out);
     check("its next start", 0, (long long)next_out);
+    check("its positions smoothed", 0, (long long)smoothed_out);
     if (inter) {
         REFUSED(VP8LF_WRONG_LENGTH, references_len = 1);
         REFUSED(VP8LF_WRONG_LENGTH, inter_modes_len = 3);
@@ -426,6 +478,7 @@ static void refused_in_order(pass filter)
     refused_pass("every fault on a zero grid", VP8LF_OK, filter, p, c);
     check("its count", 0, (long long)count_out);
     check("its next start", 0, (long long)next_out);
+    check("its positions smoothed", 0, (long long)smoothed_out);
     c.mb_rows = whole.mb_rows;
     refused_pass("every fault", VP8LF_GRID_TOO_LARGE, filter, p, c);
     c.mb_cols = whole.mb_cols;
@@ -534,15 +587,18 @@ static void null_kernels_and_passes(void)
 {
     struct picture p = sawtooth();
     int32_t adjustment = 99;
+    uint8_t passed = 99;
     check("no coefficients", false, vp8lf_mb_has_coeffs(NULL, 0));
     check("no first coefficient", 0, vp8lf_first_coeff(NULL, 0));
     check("common_adjust without bytes", VP8LF_NO_WINDOW, vp8lf_common_adjust(true, NULL, 0, 0, &adjustment));
-    check("simple_segment without bytes", VP8LF_NO_WINDOW, vp8lf_simple_segment(20, NULL, 0, 0));
-    check("subblock_filter without bytes", VP8LF_NO_WINDOW, vp8lf_subblock_filter(0, 1, 20, NULL, 0, SIZE_MAX));
-    check("mb_filter without bytes", VP8LF_NO_WINDOW, vp8lf_mb_filter(0, 1, 20, NULL, 0, 0));
+    check("simple_segment without bytes", VP8LF_NO_WINDOW, vp8lf_simple_segment(20, NULL, 0, 0, &passed));
+    check("subblock_filter without bytes", VP8LF_NO_WINDOW,
+          vp8lf_subblock_filter(0, 1, 20, NULL, 0, SIZE_MAX, &passed));
+    check("mb_filter without bytes", VP8LF_NO_WINDOW, vp8lf_mb_filter(0, 1, 20, NULL, 0, 0, &passed));
+    check("their tests", 99, passed);
 #define NO_BYTES NULL, 0
 #define LISTS p.modes, 2, p.segments, 2, p.flags, 2
-#define HALT AT_63(false), 0, 2, &count_out, &next_out
+#define HALT AT_63(false), 0, 2, &count_out, &next_out, &smoothed_out
     check("a pass without planes", VP8LF_SHORT_PLANE,
           vp8lf_filter_frame(NO_BYTES, NO_BYTES, NO_BYTES, 2, 1, 32, 16, LISTS, HALT));
     check("a pass without chroma", VP8LF_SHORT_PLANE,
@@ -553,12 +609,12 @@ static void null_kernels_and_passes(void)
           vp8lf_filter_inter_frame(p.y, 512, p.u, 128, p.v, 128, 2, 1, 32, 16, LISTS, NO_BYTES, NO_BYTES, HALT));
     check("a pass over nothing", VP8LF_OK,
           vp8lf_filter_frame(NO_BYTES, NO_BYTES, NO_BYTES, 0, 1, 0, 0, NO_BYTES, NO_BYTES, NO_BYTES, HALT));
-    check("its count and next start", 0, (long long)(count_out + next_out));
-    count_out = next_out = 99;
+    check("its count, next start and positions smoothed", 0, (long long)(count_out + next_out + smoothed_out));
+    count_out = next_out = smoothed_out = 99;
     check("an inter pass over nothing", VP8LF_OK,
           vp8lf_filter_inter_frame(NO_BYTES, NO_BYTES, NO_BYTES, 1, 0, 0, 0, NO_BYTES, NO_BYTES, NO_BYTES, NO_BYTES,
                                    NO_BYTES, HALT));
-    check("its count and next start", 0, (long long)(count_out + next_out));
+    check("its count, next start and positions smoothed", 0, (long long)(count_out + next_out + smoothed_out));
 }
 
 /* The same of the frame calls at a header level. */
@@ -566,8 +622,8 @@ static void null_frame_calls(uint8_t level)
 {
     struct picture p = sawtooth();
     header_level = level;
-#define HALT_LIFTED LIFTED, 0, 2, &count_out, &next_out
-    count_out = next_out = 99;
+#define HALT_LIFTED LIFTED, 0, 2, &count_out, &next_out, &smoothed_out
+    count_out = next_out = smoothed_out = 99;
     check("a frame call without planes", VP8LF_SHORT_PLANE,
           vp8lf_loop_filter_frame(NO_BYTES, NO_BYTES, NO_BYTES, 2, 1, 32, 16, LISTS, HALT_LIFTED));
     check("a frame call without chroma", VP8LF_SHORT_PLANE,
@@ -578,16 +634,16 @@ static void null_frame_calls(uint8_t level)
     check("an inter frame call without references", VP8LF_WRONG_LENGTH,
           vp8lf_loop_filter_inter_frame(p.y, 512, p.u, 128, p.v, 128, 2, 1, 32, 16, LISTS, NO_BYTES, NO_BYTES,
                                         HALT_LIFTED));
-    check("the count and next start of refused calls", 2 * 99, (long long)(count_out + next_out));
+    check("the numbers of refused calls", 3 * 99, (long long)(count_out + next_out + smoothed_out));
     check("a frame call over nothing", VP8LF_OK,
           vp8lf_loop_filter_frame(NO_BYTES, NO_BYTES, NO_BYTES, 0, 1, 0, 0, NO_BYTES, NO_BYTES, NO_BYTES,
                                   HALT_LIFTED));
-    check("its count and next start", 0, (long long)(count_out + next_out));
-    count_out = next_out = 99;
+    check("its count, next start and positions smoothed", 0, (long long)(count_out + next_out + smoothed_out));
+    count_out = next_out = smoothed_out = 99;
     check("an inter frame call over nothing", VP8LF_OK,
           vp8lf_loop_filter_inter_frame(NO_BYTES, NO_BYTES, NO_BYTES, 1, 0, 0, 0, NO_BYTES, NO_BYTES, NO_BYTES,
                                         NO_BYTES, NO_BYTES, HALT_LIFTED));
-    check("its count and next start", 0, (long long)(count_out + next_out));
+    check("its count, next start and positions smoothed", 0, (long long)(count_out + next_out + smoothed_out));
 }
 
 static void null_sums_and_searches(void)
@@ -753,21 +809,23 @@ static void key_pass_of_structs(unsigned bits, uint8_t level, bool frame_call)
     struct frame expected = uneven(), came = expected;
     struct vp8lf_planes planes = planes_of(&came);
     struct vp8lf_lists lists = lists_of(&came);
-    struct vp8lf_done done = {0, 0};
+    struct vp8lf_done done = {0, 0, 0};
     s.loop_filter_level = level;
     for (size_t start = 0; start < 6; start += 4) {
         check(frame_call ? "a call of vp8lf_loop_filter" : "a call of vp8lf_filter",
               (frame_call ? vp8lf_loop_filter_frame : vp8lf_filter_frame)(
                   FRAME(expected), 3, 2, 50, 27, THREE(expected), NUMBERS_AT(level, bits), start, 4, &count_out,
-                  &next_out),
+                  &next_out, &smoothed_out),
               (frame_call ? vp8lf_loop_filter : vp8lf_filter)(&planes, &lists, &s, done.next, 4, &done));
         check("its count", (long long)count_out, (long long)done.count);
         check("its next start", (long long)next_out, (long long)done.next);
+        check("its positions smoothed", (long long)smoothed_out, (long long)done.smoothed);
         same_frame("its planes", &expected, &came);
     }
     check("a start that is too large", VP8LF_START_TOO_LARGE,
           (frame_call ? vp8lf_loop_filter : vp8lf_filter)(&planes, &lists, &s, 7, 4, &done));
     check("its next start stays", 6, (long long)done.next);
+    check("its positions smoothed stay", (long long)smoothed_out, (long long)done.smoothed);
 }
 
 /* The same of the inter pass. */
@@ -777,21 +835,23 @@ static void inter_pass_of_structs(unsigned bits, uint8_t level, bool frame_call)
     struct frame expected = uneven(), came = expected;
     struct vp8lf_planes planes = planes_of(&came);
     struct vp8lf_lists lists = lists_of(&came);
-    struct vp8lf_done done = {0, 0};
+    struct vp8lf_done done = {0, 0, 0};
     s.loop_filter_level = level;
     for (size_t start = 0; start < 6; start += 4) {
         check(frame_call ? "a call of vp8lf_loop_filter_inter" : "a call of vp8lf_filter_inter",
               (frame_call ? vp8lf_loop_filter_inter_frame : vp8lf_filter_inter_frame)(
                   FRAME(expected), 3, 2, 50, 27, FIVE(expected), NUMBERS_AT(level, bits), start, 4, &count_out,
-                  &next_out),
+                  &next_out, &smoothed_out),
               (frame_call ? vp8lf_loop_filter_inter : vp8lf_filter_inter)(&planes, &lists, &s, done.next, 4, &done));
         check("its count", (long long)count_out, (long long)done.count);
         check("its next start", (long long)next_out, (long long)done.next);
+        check("its positions smoothed", (long long)smoothed_out, (long long)done.smoothed);
         same_frame("its planes", &expected, &came);
     }
     check("a start that is too large", VP8LF_START_TOO_LARGE,
           (frame_call ? vp8lf_loop_filter_inter : vp8lf_filter_inter)(&planes, &lists, &s, 7, 4, &done));
     check("its next start stays", 6, (long long)done.next);
+    check("its positions smoothed stay", (long long)smoothed_out, (long long)done.smoothed);
 }
 
 /* Each plane as long as it must be, then one of them a byte short. */
@@ -990,7 +1050,7 @@ static void null_in_structs(void)
     struct vp8lf_source source = source_of(&f), no_source = source;
     struct vp8lf_lists lists = lists_of(&f), no_lists = {.len = 6}, key_lists = lists;
     struct vp8lf_scratch lent = scratch_of(&scratch), no_scratch = lent;
-    struct vp8lf_done done = {99, 99};
+    struct vp8lf_done done = {99, 99, 99};
     struct vp8lf_best best = {99, 99, 99};
     uint64_t sum = 99;
     no_source.u = NULL;
@@ -999,7 +1059,7 @@ static void null_in_structs(void)
     check("planes that are NULL", VP8LF_SHORT_PLANE, vp8lf_filter(&no_planes, &lists, &s, 0, 6, &done));
     check("lists that are NULL", VP8LF_WRONG_LENGTH, vp8lf_filter(&planes, &no_lists, &s, 0, 6, &done));
     check("references that are NULL", VP8LF_WRONG_LENGTH, vp8lf_filter_inter(&planes, &key_lists, &s, 0, 6, &done));
-    check("the count of a refused call", 99, (long long)done.count);
+    check("the numbers of a refused call", 3 * 99, (long long)(done.count + done.next + done.smoothed));
     check("references that are NULL in the key pass", VP8LF_OK, vp8lf_filter(&planes, &key_lists, &s, 0, 6, &done));
     check("a source plane that is NULL", VP8LF_BAD_SOURCE, vp8lf_error_sum(&planes, &no_source, &sum));
     check("a scratch plane that is NULL", VP8LF_SHORT_PLANE,
@@ -1017,17 +1077,18 @@ static void null_in_frame_calls(uint8_t level)
     struct vp8lf_planes planes = planes_of(&f);
     struct vp8lf_planes no_planes = vp8lf_planes_of(NULL, 9999, NULL, 9999, NULL, 9999, 3, 2, 50, 27);
     struct vp8lf_lists lists = lists_of(&f), no_lists = {.len = 6}, key_lists = lists;
-    struct vp8lf_done done = {99, 99};
+    struct vp8lf_done done = {99, 99, 99};
     s.loop_filter_level = level;
     key_lists.references = key_lists.inter_modes = NULL;
     check("planes that are NULL", VP8LF_SHORT_PLANE, vp8lf_loop_filter(&no_planes, &lists, &s, 0, 6, &done));
     check("lists that are NULL", VP8LF_WRONG_LENGTH, vp8lf_loop_filter(&planes, &no_lists, &s, 0, 6, &done));
     check("references that are NULL", VP8LF_WRONG_LENGTH,
           vp8lf_loop_filter_inter(&planes, &key_lists, &s, 0, 6, &done));
-    check("the count and next start of refused calls", 2 * 99, (long long)(done.count + done.next));
+    check("the numbers of refused calls", 3 * 99, (long long)(done.count + done.next + done.smoothed));
     check("references that are NULL in the key frame call", VP8LF_OK,
           vp8lf_loop_filter(&planes, &key_lists, &s, 0, 6, &done));
     check("its count and next start", 2 * 6, (long long)(done.count + done.next));
+    check("whether positions are smoothed", level > 0, done.smoothed > 0);
 }
 
 static void structs(void)
@@ -1079,26 +1140,28 @@ static bool lifts(const struct vp8lf_settings *s)
 static long long filter_frame(bool frame_call, bool inter, struct frame *f, const struct vp8lf_settings *s,
                               size_t start, size_t allowance)
 {
-    count_out = next_out = 99;
+    count_out = next_out = smoothed_out = 99;
     if (inter)
         return (frame_call ? vp8lf_loop_filter_inter_frame : vp8lf_filter_inter_frame)(
-            FRAME(*f), 3, 2, 50, 27, FIVE(*f), FIELDS(s), start, allowance, &count_out, &next_out);
+            FRAME(*f), 3, 2, 50, 27, FIVE(*f), FIELDS(s), start, allowance, &count_out, &next_out, &smoothed_out);
     return (frame_call ? vp8lf_loop_filter_frame : vp8lf_filter_frame)(
-        FRAME(*f), 3, 2, 50, 27, THREE(*f), FIELDS(s), start, allowance, &count_out, &next_out);
+        FRAME(*f), 3, 2, 50, 27, THREE(*f), FIELDS(s), start, allowance, &count_out, &next_out, &smoothed_out);
 }
 
-/* The pass on one frame and the frame call on another: the same answer, count and next start. */
+/* The pass on one frame and the frame call on another: the same answer, count, next start and, above 0, positions. */
 static void both_calls(bool inter, const struct vp8lf_settings *s, struct frame *passed, struct frame *came,
                        size_t start, size_t allowance)
 {
     size_t left = start > 6 ? 0 : 6 - start, due = left < allowance ? left : allowance;
     long long answer = filter_frame(false, inter, passed, s, start, allowance);
-    size_t count = count_out, next = next_out;
+    size_t count = count_out, next = next_out, smoothed = smoothed_out;
     check("the pass beside a frame call", start > 6 ? VP8LF_START_TOO_LARGE : VP8LF_OK, answer);
     check("its count", start > 6 ? 99 : (long long)due, (long long)count);
     check("the frame call beside a pass", answer, filter_frame(true, inter, came, s, start, allowance));
     check("its count", (long long)count, (long long)count_out);
     check("its next start", (long long)next, (long long)next_out);
+    check("its positions smoothed", start <= 6 && s->loop_filter_level == 0 ? 0 : (long long)smoothed,
+          (long long)smoothed_out);
 }
 
 /* Whether every macroblock has a level above 0, or none has. */
@@ -1179,6 +1242,7 @@ int main(void)
     limits("F", 255, 0, true, 255, 2, 255, 255);
     table_of_limits();
     windows();
+    tests_of_windows();
     for (size_t len = 0; len < 8; len++)
         refused(len, 0);
     refused(8, 1);
@@ -1192,6 +1256,8 @@ int main(void)
     figure_m();
     figures_n_and_o(key_pass);
     figures_n_and_o(inter_pass);
+    flat_planes(key_pass);
+    flat_planes(inter_pass);
     refused_passes(key_pass, false);
     refused_passes(inter_pass, true);
     final_rows(2, 3, 0, VP8LF_OK, 0, 0);

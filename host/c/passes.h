@@ -35,13 +35,13 @@ struct frame {
 
 /* The pass of a frame, or its frame call. */
 static uint8_t run_pass(bool frame_call, bool inter, const struct frame *f, size_t start, size_t allowance,
-                        size_t *count, size_t *next)
+                        size_t *count, size_t *next, size_t *smoothed)
 {
     if (inter)
         return (frame_call ? vp8lf_loop_filter_inter_frame : vp8lf_filter_inter_frame)(
-            PLANES(f), INTER_LISTS(f), SETTINGS(f->settings), start, allowance, count, next);
+            PLANES(f), INTER_LISTS(f), SETTINGS(f->settings), start, allowance, count, next, smoothed);
     return (frame_call ? vp8lf_loop_filter_frame : vp8lf_filter_frame)(
-        PLANES(f), KEY_LISTS(f), SETTINGS(f->settings), start, allowance, count, next);
+        PLANES(f), KEY_LISTS(f), SETTINGS(f->settings), start, allowance, count, next, smoothed);
 }
 
 #endif

@@ -3,7 +3,7 @@ use mathlib.Core.Path.{_≡_, refl, sym, ap, _∙_}
 use mathlib.Core.Logic.{_⊎_, inl, inr, _≢_}
 use mathlib.Core.Bool.{Bool, true, false, cond, _||_}
 use Prim.Native.Nat.{ℕ, zero, suc, _*_, _≤_, _<_}
-use native.Mathlib.Nat.{zero-mul, mul-zero, mul-pos}
+use native.Mathlib.Nat.{zero-mul, mul-zero, mul-pos, mul-le-mul}
 use native.Mathlib.Omega.{arith}
 use lib.Dec.{eqb, eqb·suc-zero, ltb}
 use lib.ListN.{length}
@@ -138,6 +138,17 @@ module _ (W : Pass) (a : Call W) (ok : refusal W a ≡ 0) where
       go : Shows → side q * a .grid .columns ≤ stride (a .grid) q
       go (inl z) = true-false (sym z ∙ some-macroblock (a .grid .columns) (a .grid .rows) some)
       go (inr s) = at q (false-or _ _ (false-or _ _ (false-or _ _ (s .strides) .0) .0))
+
+  -- its grid has at most 1024 × 1024 macroblocks
+  pub few : macroblocks (a .grid) ≤ 1048576
+  unfolding zeroGrid tooLarge
+  few = go shows
+    where
+      go : Shows → macroblocks (a .grid) ≤ 1048576
+      go (inl z) = omega (arith, zero-macroblocks (a .grid .columns) (a .grid .rows) z)
+      go (inr s) =
+          let b = false-or (ltb 1024 (a .grid .columns)) (ltb 1024 (a .grid .rows)) (s .size) in
+          mul-le-mul (ltb-false 1024 (a .grid .columns) (b .0)) (ltb-false 1024 (a .grid .rows) (b .1))
 
   -- a call from start 0 with the same grid and the same carried, and planes as long, is accepted too
   pub accepted-too :

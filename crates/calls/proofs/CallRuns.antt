@@ -95,7 +95,7 @@ module _ (W : Pass) (pic : Picture) where
           ext-getD 0 (plane q (h₁ .planes)) (plane q (h .planes)) (after .lengths q)
           (λ i _. at (record { on = q; index = i }) (after .sees (record { on = q; index = i })) refl)
 
-  start-le : (h : LastLeft) (a : Call W) (d : Progress) → h .start ≤ n → answer W a ≡ gives d → GoesOn W pic h a
+  pub start-le : (h : LastLeft) (a : Call W) (d : Progress) → h .start ≤ n → answer W a ≡ gives d → GoesOn W pic h a
       → (h .start ≤ (afterAccepted W a d) .start) × ((afterAccepted W a d) .start ≤ n)
   unfolding afterAccepted
   start-le h a d l e on = let b = did h a d l e on in omega arith
@@ -107,7 +107,7 @@ module _ (W : Pass) (pic : Picture) where
     pub start : h′ .start ≡ h .start + min (allowances W list) (n - h .start)
     pub counted : counts W list ≡ min (allowances W list) (n - h .start)
 
-  split : (a r s n : ℕ) → s ≤ n → min (a + r) (n - s) ≡ min a (n - s) + min r (n - (s + min a (n - s)))
+  pub split : (a r s n : ℕ) → s ≤ n → min (a + r) (n - s) ≡ min a (n - s) + min r (n - (s + min a (n - s)))
   split a r s n h = omega arith
 
   run-accepted : (h h′ : LastLeft) (a : Call W) (d : Progress) (rest : List (Call W)) → h .start ≤ n → answer W a ≡ gives d → GoesOn W pic h a → Carries W pic (a .carried)

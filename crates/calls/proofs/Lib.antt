@@ -5,6 +5,8 @@ pub mod RecordBytes
 -- Demand 3.
 pub mod CallRuns
 pub mod Demand3
+-- How many positions are smoothed.
+pub mod Parts
 pub mod RowsLaws
 pub mod SentRows
 pub mod CallsShown

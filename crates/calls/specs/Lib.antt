@@ -2,6 +2,7 @@
 pub mod Entries
 pub mod Pass
 pub mod Calls
+pub mod Smoothed
 pub mod FinalRows
 pub mod SentRows
 -- how the arguments and the answer of a function are read as a call and its outcome

@@ -12,9 +12,13 @@ pub enum PassRefusal {
     StartBeyond,
 }
 
-// Done, with the count of macroblocks done and the next start; or refused.
+// Done, with the count of macroblocks done, the next start, and how many positions were smoothed; or refused.
 pub enum PassAnswer {
-    Done { count: usize, next: usize },
+    Done {
+        count: usize,
+        next: usize,
+        smoothed: usize,
+    },
     Refused(PassRefusal),
 }
 

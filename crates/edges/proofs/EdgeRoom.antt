@@ -11,7 +11,7 @@ use lib.ListN as ListN
 use borrow.Author.Tests.{leb-true, leb-false, le-leb, lt-leb}
 use Rattle.kernels.specs.Segment.{Kernel, taps}
 use Rattle.planes.specs.Edges.{vertical, horizontal}
-use Rattle.edges.specs.EdgeFrom.{edgeFrom, edgeFits, edgeWithin}
+use Rattle.edges.specs.EdgeFrom.{edgeFrom, edgeFits, edgeWithin, smoothedFrom, smoothedWithin}
 
 -- ---- the judgement, without the sum
 
@@ -22,10 +22,13 @@ rows-past n last s h q = omega (arith, div-lt-iff-lt-mul h .0 q, mul-comm s last
 pub rows-within : (n last s : ℕ) → s ≤ n / last → last * s ≤ n
 rows-within n last s q = omega (arith, mul-le-mul-left last q, div-mul-le-self n last, mul-comm (n / last) last)
 
--- the test on the difference is the test on the sum
-pub on-sum : (t : Bool) (n used across base : ℕ) → used ≤ n → across ≤ n - used → leb base (n - used - across) ≡ t → t ≡ leb (base + used + across) n
-on-sum true n used across base u a e = sym (le-leb (base + used + across) n (omega (arith, leb-true base (n - used - across) e)))
-on-sum false n used across base u a e = sym (lt-leb (base + used + across) n (omega (arith, leb-false base (n - used - across) e)))
+-- the test on the quotient is the test on the sum
+pub on-rows : (n last s across base : ℕ) → 0 < last → across ≤ n → base ≤ n - across → leb s ((n - across - base) / last) ≡ leb (base + last * s + across) n
+on-rows n last s across base h a b = by (leb s ((n - across - base) / last)) refl
+  where
+    by : (t : Bool) → leb s ((n - across - base) / last) ≡ t → t ≡ leb (base + last * s + across) n
+    by true e = sym (le-leb (base + last * s + across) n (omega (arith, rows-within (n - across - base) last s (leb-true s ((n - across - base) / last) e))))
+    by false e = sym (lt-leb (base + last * s + across) n (omega (arith, rows-past (n - across - base) last s h (leb-false s ((n - across - base) / last) e))))
 
 -- both tests that a function answered passed
 pub both-pass : (a b c d : ℕ) {f : Bool} → f ≡ (leb a b && leb c d) → f ≡ true → (c ≤ d) × (a ≤ b)
@@ -35,7 +38,7 @@ both-pass a b c d e t = go (leb a b) (leb c d) (leb-true a b) (leb-true c d) (sy
     go true q hp hq pass = (hq pass, hp refl)
     go false q hp hq pass = (hq (cc), hp pass)
 
--- ---- an edge that fits
+-- ---- an edge that fits: what it leaves, and how many of its positions are smoothed
 
 pub vertical-within : (k : Kernel) (s base n : ℕ) (l : List ℕ) → base + (n - 1) * s + taps k ≤ ListN.length l → edgeWithin vertical k s base n l ≡ edgeFrom vertical k s base n l
 unfolding edgeWithin edgeFits
@@ -46,3 +49,13 @@ unfolding edgeWithin edgeFits
 horizontal-within k s base n l wide room =
     ap (λ (t : Bool). cond (t && leb (base + (taps k - 1) * s + n) (ListN.length l)) (edgeFrom horizontal k s base n l) l) (le-leb n s wide)
     ∙ ap (λ (t : Bool). cond t (edgeFrom horizontal k s base n l) l) (le-leb (base + (taps k - 1) * s + n) (ListN.length l) room)
+
+pub vertical-counted : (k : Kernel) (s base n : ℕ) (l : List ℕ) → base + (n - 1) * s + taps k ≤ ListN.length l → smoothedWithin vertical k s base n l ≡ smoothedFrom vertical k s base n l
+unfolding smoothedWithin edgeFits
+vertical-counted k s base n l room = ap (λ (t : Bool). cond t (smoothedFrom vertical k s base n l) 0) (le-leb (base + (n - 1) * s + taps k) (ListN.length l) room)
+
+pub horizontal-counted : (k : Kernel) (s base n : ℕ) (l : List ℕ) → n ≤ s → base + (taps k - 1) * s + n ≤ ListN.length l → smoothedWithin horizontal k s base n l ≡ smoothedFrom horizontal k s base n l
+unfolding smoothedWithin edgeFits
+horizontal-counted k s base n l wide room =
+    ap (λ (t : Bool). cond (t && leb (base + (taps k - 1) * s + n) (ListN.length l)) (smoothedFrom horizontal k s base n l) 0) (le-leb n s wide)
+    ∙ ap (λ (t : Bool). cond t (smoothedFrom horizontal k s base n l) 0) (le-leb (base + (taps k - 1) * s + n) (ListN.length l) room)

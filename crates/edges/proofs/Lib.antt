@@ -6,5 +6,6 @@ pub mod RowStores
 pub mod ArrayRows
 pub mod RunTurns
 pub mod RowRuns
+pub mod RowCounts
 pub mod VerticalRows
 pub mod EdgeRoom

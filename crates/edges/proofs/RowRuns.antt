@@ -54,7 +54,7 @@ unfolding u2s
 byte-of v h = byte-by v (ltb v 128) refl h
 
 module _ (m n s at : ℕ) (l : List ℕ) where
-  tap-at : (k j : ℕ) → k < m → j < n → getD (getD (rowsAt m n s at l) k []) j (pos 0) ≡ u2s (getD l (at + k * s + j) 0)
+  pub tap-at : (k j : ℕ) → k < m → j < n → getD (getD (rowsAt m n s at l) k []) j (pos 0) ≡ u2s (getD l (at + k * s + j) 0)
   unfolding rowsAt rowAt
   tap-at k j h g =
       ap (λ (r : List ℤ). getD r j (pos 0)) (getD-table m (λ k. rowAt n (at + k * s) l) k [] h)

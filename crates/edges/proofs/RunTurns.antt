@@ -1,7 +1,9 @@
 -- The positions of a run, and its loop: the beginning, a turn and the end, over variables.
 use mathlib.Core.Path.{_≡_, refl, sym, ap, _∙_}
 use mathlib.Core.List.{List, [], _∷_}
-use Prim.Native.Nat.{ℕ, _+_, _<_}
+use Prim.Native.Nat.{ℕ, zero, suc, _+_, _≤_, _<_}
+use mathlib.Core.Bool.{Bool}
+use native.Mathlib.Numerals.{add-one}
 use native.Mathlib.Omega.{arith}
 use lib.ListN.{length, getD, set}
 use lib.Seq.{ext-getD}
@@ -10,10 +12,13 @@ use mir.Syntax.{w16}
 use mir.Val.{toZ, ofZ, SFits}
 use mir.Facts.{toZ-ofZ}
 use Rattle.arithmetic.specs.Tables.{table, fill}
-use Rattle.kernels.specs.Segment.{Kernel}
+use Rattle.kernels.specs.Kernels.{edgeValue, filterYes}
+use Rattle.kernels.specs.Segment.{Kernel, mark}
+use Rattle.kernels.proofs.SegmentLaws.{mark-most}
+use lib.Dec.{leb}
 use Rattle.edges.specs.declared.run.InnerTaps.{InnerTaps}
 use Rattle.edges.specs.declared.run.EdgeTaps.{EdgeTaps}
-use Rattle.edges.specs.Private.Runs.{tapOf, innerTaps, edgeTaps, storeTap, storeInner, positionOf, edgeOf, runOfEight, runOfFour, SignedRows, SignedEight, SignedFour}
+use Rattle.edges.specs.Private.Runs.{tapOf, innerTaps, edgeTaps, storeTap, storeInner, positionOf, edgeOf, runOfEight, runOfFour, SignedRows, SignedEight, SignedFour, yesOf, marksOf}
 use Rattle.edges.proofs.TapNumbers.{back, stays}
 use Rattle.arithmetic.proofs.Tables.{length-table, getD-table, fill-none, fill-turn, fill-end}
 
@@ -48,6 +53,29 @@ module _ {a0 a1 a2 a3 a4 a5 a6 a7 : ℤ} where
       e
       ∙ (λ i. innerTaps k (back a0 (s .p3-in) i) (back a1 (s .p2-in) i) (back a2 (s .p1-in) i) (back a3 (s .p0-in) i) (back a4 (s .q0-in) i) (back a5 (s .q1-in) i) (back a6 (s .q2-in) i) (back a7 (s .q3-in) i))
       ∙ (λ i. innerTaps k (e0 i) (e1 i) (e2 i) (e3 i) (e4 i) (e5 i) (e6 i) (e7 i))
+
+  -- filter_yes on them
+  pub eight-yes : (interior edge : ℕ) (t : List (List ℤ)) (j : ℕ) (r : Bool) → SignedEight a0 a1 a2 a3 a4 a5 a6 a7
+      → a0 ≡ tapOf t 0 j → a1 ≡ tapOf t 1 j → a2 ≡ tapOf t 2 j → a3 ≡ tapOf t 3 j → a4 ≡ tapOf t 4 j → a5 ≡ tapOf t 5 j → a6 ≡ tapOf t 6 j → a7 ≡ tapOf t 7 j → r ≡ filterYes interior edge (read a0) (read a1) (read a2) (read a3) (read a4) (read a5) (read a6) (read a7) → r ≡ yesOf interior edge t j
+  eight-yes interior edge t j r s e0 e1 e2 e3 e4 e5 e6 e7 e =
+      e
+      ∙ (λ i. filterYes interior edge (back a0 (s .p3-in) i) (back a1 (s .p2-in) i) (back a2 (s .p1-in) i) (back a3 (s .p0-in) i) (back a4 (s .q0-in) i) (back a5 (s .q1-in) i) (back a6 (s .q2-in) i) (back a7 (s .q3-in) i))
+      ∙ (λ i. filterYes interior edge (e0 i) (e1 i) (e2 i) (e3 i) (e4 i) (e5 i) (e6 i) (e7 i))
+
+-- ---- how many pass
+
+pub marks-none : (test : ℕ → Bool) → 0 ≡ marksOf test 0
+unfolding marksOf
+marks-none test = refl
+
+pub marks-turn : (test : ℕ → Bool) (n a b : ℕ) → a ≡ marksOf test n → b ≡ mark (test n) → a + b ≡ marksOf test (n + 1)
+unfolding marksOf
+marks-turn test n a b ea eb = (λ i. ea i + eb i) ∙ ap (marksOf test) (sym (add-one n))
+
+pub marks-most : (test : ℕ → Bool) (n : ℕ) → marksOf test n ≤ n
+unfolding marksOf
+marks-most test zero = omega arith
+marks-most test (suc n) = omega (arith, marks-most test n, mark-most (test n))
 
 -- the inner taps, stored one after the other
 module _ (n : ℕ) (s : InnerTaps) (t t1 t2 t3 t4 t5 t6 : List (List ℤ)) where
@@ -141,6 +169,9 @@ module _ {a0 a1 a2 a3 : ℤ} (s : SignedFour a0 a1 a2 a3) where
 
   pub four-turn : (k : Kernel) (r : EdgeTaps) → r ≡ edgeTaps k (read a0) (read a1) (read a2) (read a3) → r ≡ edgeTaps k a0 a1 a2 a3
   four-turn k r e = e ∙ (λ i. edgeTaps k (back a0 (s .p1-in) i) (back a1 (s .p0-in) i) (back a2 (s .q0-in) i) (back a3 (s .q1-in) i))
+
+  pub four-yes : (edge : ℕ) (r : Bool) → r ≡ leb (edgeValue (read a0) (read a1) (read a2) (read a3)) edge → r ≡ leb (edgeValue a0 a1 a2 a3) edge
+  four-yes edge r e = e ∙ (λ i. leb (edgeValue (back a0 (s .p1-in) i) (back a1 (s .p0-in) i) (back a2 (s .q0-in) i) (back a3 (s .q1-in) i)) edge)
 
 pub four-end : (k : Kernel) (n : ℕ) (t : List (List ℤ)) (o1 o2 : List ℤ)
     → o1 ≡ table n (λ j. edgeOf k t j .p0) → o2 ≡ table n (λ j. edgeOf k t j .q0)

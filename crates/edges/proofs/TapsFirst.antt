@@ -6,10 +6,13 @@ use Prim.Native.Nat.{ℕ, zero, suc, _+_, _-_, _≤_, _<_}
 use native.Mathlib.Omega.{arith}
 use lib.ListN.{getD, set}
 use lib.Seq.{set-comm}
-use Rattle.kernels.specs.Segment.{Kernel, taps, scatter, segment}
-use Rattle.kernels.proofs.SegmentLaws.{stored, segment-is, stored-same, length-stored, segment-other}
-use Rattle.planes.specs.Steps.{steps}
+use native.Mathlib.Numerals.{add-one}
+use Rattle.kernels.specs.Segment.{Kernel, taps, scatter, segment, passesAt, mark}
+use Rattle.kernels.proofs.SegmentLaws.{stored, segment-is, stored-same, passes-same, length-stored, segment-other}
+use Rattle.planes.specs.Steps.{steps, tally}
 use Rattle.planes.proofs.Steps.{steps-suc, steps-ext}
+use Rattle.planes.proofs.Tally.{tally-turn}
+use Rattle.edges.specs.Private.Runs.{marksOf}
 use Rattle.planes.proofs.RowsFirst.{steps-exchange, scatter-steps}
 
 -- `at j t` is the index of tap t of position j
@@ -32,6 +35,17 @@ module _ (k : Kernel) (at : ℕ → ℕ → ℕ) (l : List ℕ) where
     stored-unchanged j hj =
         stored-same k (at j) (at j) (steps (λ i. segment k (at i)) 0 j l) l
         (λ t ht. untouched j (at j t) (λ i t′ hi p q eq. absurd (omega (arith, apart j i t t′ hj (omega arith) eq))))
+
+    -- the tests may all be made before any tap is stored
+    pub tests-first : (j : ℕ) → j ≤ n → tally (λ i. segment k (at i)) (λ i l′. mark (passesAt k (at i) l′)) 0 j l ≡ marksOf (λ i. passesAt k (at i) l) j
+    unfolding tally marksOf
+    tests-first zero h = refl
+    tests-first (suc j) h =
+        ap (λ (i : ℕ). tally (λ i. segment k (at i)) (λ i l′. mark (passesAt k (at i) l′)) 0 i l) (sym (add-one j))
+        ∙ tally-turn (λ i. segment k (at i)) (λ i l′. mark (passesAt k (at i) l′)) j l
+        ∙ ap₂ {C = ℕ} (λ x y. x + y) (tests-first j (omega arith))
+        (ap mark (passes-same k (at j) (at j) (steps (λ i. segment k (at i)) 0 j l) l
+        (λ t ht. untouched j (at j t) (λ i t′ hi p q eq. absurd (omega (arith, apart j i t t′ h (omega arith) eq))))))
 
     read-first : (j : ℕ) → j ≤ n → steps (λ i. segment k (at i)) 0 j l ≡ steps (λ i. scatter (at i) 1 (stored k (at i) l)) 0 j l
     unfolding steps

@@ -17,7 +17,7 @@ ghost use Prim.Native.Nat.{_+_, _*_, _≤_};
 ghost use lib.ListN.{length};
 ghost use Rattle.kernels.specs.Segment.{simpleSegment};
 ghost use Rattle.planes.specs.Edges.{horizontal};
-ghost use Rattle.edges.specs.EdgeFrom.{edgeFrom, edgeWithin};
+ghost use Rattle.edges.specs.EdgeFrom.{edgeFrom, edgeWithin, smoothedFrom, smoothedWithin};
 ghost use Rattle.edges.specs.NormalKernels.{outerOf, innerOf};
 ghost use Rattle.edges.specs.Private.Runs.{rowsAt, storeSix, storeFour, SignedInner, normalKernel};
 
@@ -167,10 +167,11 @@ fn h_run16(
     interior_limit: u8,
     edge_limit: u8,
     mb_edge: bool,
-)
+) -> usize
     requires { ⌜ at + 7 * stride + 16 ≤ length (now plane) ⌝ }
     requires { ⌜ 16 ≤ stride ⌝ }
     ensures { λ _. ⌜ now (plane .exit) ≡ edgeFrom horizontal (normalKernel «mb_edge» «hev_threshold» «interior_limit» «edge_limit») stride at 16 (now (plane .entry)) ⌝ }
+    ensures { λ r. ⌜ r ≡ smoothedFrom horizontal (normalKernel «mb_edge» «hev_threshold» «interior_limit» «edge_limit») stride at 16 (now (plane .entry)) ⌝ }
 {
     let taps = gather_rows16(plane, stride, at);
     let edge = EdgeLimits {
@@ -179,11 +180,15 @@ fn h_run16(
         limit: edge_limit,
     };
     if mb_edge {
-        let rows = mb_run16(taps, edge);
+        let mut passed: u16 = 0;
+        let rows = mb_run16(taps, edge, &mut passed);
         scatter_six16(plane, stride, at, rows);
+        passed as usize
     } else {
-        let rows = sub_run16(taps, edge);
+        let mut passed: u16 = 0;
+        let rows = sub_run16(taps, edge, &mut passed);
         scatter_four16(plane, stride, at, rows);
+        passed as usize
     }
 }
 
@@ -197,10 +202,11 @@ fn h_run8(
     interior_limit: u8,
     edge_limit: u8,
     mb_edge: bool,
-)
+) -> usize
     requires { ⌜ at + 7 * stride + 8 ≤ length (now plane) ⌝ }
     requires { ⌜ 8 ≤ stride ⌝ }
     ensures { λ _. ⌜ now (plane .exit) ≡ edgeFrom horizontal (normalKernel «mb_edge» «hev_threshold» «interior_limit» «edge_limit») stride at 8 (now (plane .entry)) ⌝ }
+    ensures { λ r. ⌜ r ≡ smoothedFrom horizontal (normalKernel «mb_edge» «hev_threshold» «interior_limit» «edge_limit») stride at 8 (now (plane .entry)) ⌝ }
 {
     let taps = gather_rows8(plane, stride, at);
     let edge = EdgeLimits {
@@ -209,19 +215,24 @@ fn h_run8(
         limit: edge_limit,
     };
     if mb_edge {
-        let rows = mb_run8(taps, edge);
+        let mut passed: u16 = 0;
+        let rows = mb_run8(taps, edge, &mut passed);
         scatter_six8(plane, stride, at, rows);
+        passed as usize
     } else {
-        let rows = sub_run8(taps, edge);
+        let mut passed: u16 = 0;
+        let rows = sub_run8(taps, edge, &mut passed);
         scatter_four8(plane, stride, at, rows);
+        passed as usize
     }
 }
 
 // Any edge of the simple filter.
-fn h_simple(plane: &mut [u8], stride: usize, at: usize, edge: u8)
+fn h_simple(plane: &mut [u8], stride: usize, at: usize, edge: u8) -> usize
     requires { ⌜ at + 3 * stride + 16 ≤ length (now plane) ⌝ }
     requires { ⌜ 16 ≤ stride ⌝ }
     ensures { λ _. ⌜ now (plane .exit) ≡ edgeFrom horizontal (simpleSegment edge) stride at 16 (now (plane .entry)) ⌝ }
+    ensures { λ r. ⌜ r ≡ smoothedFrom horizontal (simpleSegment edge) stride at 16 (now (plane .entry)) ⌝ }
 {
     let a1 = at + stride;
     let a2 = at + 2 * stride;
@@ -230,16 +241,19 @@ fn h_simple(plane: &mut [u8], stride: usize, at: usize, edge: u8)
     let r1 = gather16(plane, a1);
     let r2 = gather16(plane, a2);
     let r3 = gather16(plane, a3);
-    let rows = simple_run([r0, r1, r2, r3], edge);
+    let mut passed: u16 = 0;
+    let rows = simple_run([r0, r1, r2, r3], edge, &mut passed);
     let o1 = rows[1];
     let o2 = rows[2];
     scatter16(plane, a1, o1);
     scatter16(plane, a2, o2);
+    passed as usize
 }
 
 // A macroblock's upper border of 16 samples.
-pub fn mb_edge16(plane: &mut [u8], stride: usize, at: usize, limits: LoopFilterParams)
+pub fn mb_edge16(plane: &mut [u8], stride: usize, at: usize, limits: LoopFilterParams) -> usize
     ensures { λ _. ⌜ now (plane .exit) ≡ edgeWithin horizontal (outerOf limits) stride at 16 (now (plane .entry)) ⌝ }
+    ensures { λ r. ⌜ r ≡ smoothedWithin horizontal (outerOf limits) stride at 16 (now (plane .entry)) ⌝ }
 {
     if has_rows(plane.len(), 7, stride, at, 16) {
         h_run16(
@@ -250,13 +264,16 @@ pub fn mb_edge16(plane: &mut [u8], stride: usize, at: usize, limits: LoopFilterP
             limits.interior_limit,
             limits.mbedge_limit,
             true,
-        );
+        )
+    } else {
+        0
     }
 }
 
 // A macroblock's upper border of 8 samples.
-pub fn mb_edge8(plane: &mut [u8], stride: usize, at: usize, limits: LoopFilterParams)
+pub fn mb_edge8(plane: &mut [u8], stride: usize, at: usize, limits: LoopFilterParams) -> usize
     ensures { λ _. ⌜ now (plane .exit) ≡ edgeWithin horizontal (outerOf limits) stride at 8 (now (plane .entry)) ⌝ }
+    ensures { λ r. ⌜ r ≡ smoothedWithin horizontal (outerOf limits) stride at 8 (now (plane .entry)) ⌝ }
 {
     if has_rows(plane.len(), 7, stride, at, 8) {
         h_run8(
@@ -267,13 +284,21 @@ pub fn mb_edge8(plane: &mut [u8], stride: usize, at: usize, limits: LoopFilterPa
             limits.interior_limit,
             limits.mbedge_limit,
             true,
-        );
+        )
+    } else {
+        0
     }
 }
 
 // An edge of 16 samples between subblocks.
-pub fn subblock_edge16(plane: &mut [u8], stride: usize, at: usize, limits: LoopFilterParams)
+pub fn subblock_edge16(
+    plane: &mut [u8],
+    stride: usize,
+    at: usize,
+    limits: LoopFilterParams,
+) -> usize
     ensures { λ _. ⌜ now (plane .exit) ≡ edgeWithin horizontal (innerOf limits) stride at 16 (now (plane .entry)) ⌝ }
+    ensures { λ r. ⌜ r ≡ smoothedWithin horizontal (innerOf limits) stride at 16 (now (plane .entry)) ⌝ }
 {
     if has_rows(plane.len(), 7, stride, at, 16) {
         h_run16(
@@ -284,13 +309,16 @@ pub fn subblock_edge16(plane: &mut [u8], stride: usize, at: usize, limits: LoopF
             limits.interior_limit,
             limits.sub_bedge_limit,
             false,
-        );
+        )
+    } else {
+        0
     }
 }
 
 // An edge of 8 samples between subblocks.
-pub fn subblock_edge8(plane: &mut [u8], stride: usize, at: usize, limits: LoopFilterParams)
+pub fn subblock_edge8(plane: &mut [u8], stride: usize, at: usize, limits: LoopFilterParams) -> usize
     ensures { λ _. ⌜ now (plane .exit) ≡ edgeWithin horizontal (innerOf limits) stride at 8 (now (plane .entry)) ⌝ }
+    ensures { λ r. ⌜ r ≡ smoothedWithin horizontal (innerOf limits) stride at 8 (now (plane .entry)) ⌝ }
 {
     if has_rows(plane.len(), 7, stride, at, 8) {
         h_run8(
@@ -301,15 +329,20 @@ pub fn subblock_edge8(plane: &mut [u8], stride: usize, at: usize, limits: LoopFi
             limits.interior_limit,
             limits.sub_bedge_limit,
             false,
-        );
+        )
+    } else {
+        0
     }
 }
 
 // Any edge of 16 samples of the simple filter.
-pub fn simple_edge16(plane: &mut [u8], stride: usize, at: usize, edge_limit: u8)
+pub fn simple_edge16(plane: &mut [u8], stride: usize, at: usize, edge_limit: u8) -> usize
     ensures { λ _. ⌜ now (plane .exit) ≡ edgeWithin horizontal (simpleSegment «edge_limit») stride at 16 (now (plane .entry)) ⌝ }
+    ensures { λ r. ⌜ r ≡ smoothedWithin horizontal (simpleSegment «edge_limit») stride at 16 (now (plane .entry)) ⌝ }
 {
     if has_rows(plane.len(), 3, stride, at, 16) {
-        h_simple(plane, stride, at, edge_limit);
+        h_simple(plane, stride, at, edge_limit)
+    } else {
+        0
     }
 }

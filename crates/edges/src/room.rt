@@ -10,14 +10,14 @@ pub(crate) fn has_room(len: usize, last: usize, stride: usize, at: usize, across
     requires { ⌜ 0 < last ⌝ }
     ensures { λ r. ⌜ r ≡ leb (at + last * stride + across) len ⌝ }
 {
-    if len / last < stride {
+    if len < across {
         return false;
     }
-    let rest = len - last * stride;
-    if rest < across {
+    let room = len - across;
+    if room < at {
         return false;
     }
-    at <= rest - across
+    stride <= (room - at) / last
 }
 
 // The same of rows that do not overlap.

@@ -12,9 +12,9 @@ ghost use lib.Signed.{mag};
 ghost use Rattle.arithmetic.specs.Numbers as num;
 ghost use Rattle.kernels.specs.Kernels as kern;
 ghost use Rattle.kernels.specs.Kernels.{apart, edgeValue, filterValue, filterYes, hev, gainOf, lossOf};
-ghost use Rattle.kernels.specs.Segment.{simpleSegment, subblockFilter, mbFilter};
+ghost use Rattle.kernels.specs.Segment.{simpleSegment, subblockFilter, mbFilter, mark};
 ghost use Rattle.edges.specs.Private.Runs as spec;
-ghost use Rattle.edges.specs.Private.Runs.{SignedRows, SignedEight, SignedFour, innerTaps, edgeTaps, tapOf, storeTap, storeInner, positionOf, runOfEight, runOfFour};
+ghost use Rattle.edges.specs.Private.Runs.{SignedRows, SignedEight, SignedFour, innerTaps, edgeTaps, tapOf, storeTap, storeInner, positionOf, runOfEight, runOfFour, yesOf, simpleOf, marksOf};
 
 // The limits of a normal edge.
 pub(crate) struct EdgeLimits {
@@ -37,6 +37,13 @@ struct InnerTaps {
 struct EdgeTaps {
     p0: i16,
     q0: i16,
+}
+
+// What a position adds to the count of those whose test passed.
+fn one_if(yes: bool) -> u16
+    ensures { λ r. ⌜ r ≡ mark yes ⌝ }
+{
+    if yes { 1 } else { 0 }
 }
 
 fn larger(a: i16, b: i16) -> i16
@@ -287,6 +294,26 @@ fn set_inner16(rows: &mut [[i16; 16]; 8], n: usize, s: InnerTaps)
     set_tap16(rows, 6, n, s.q2);
 }
 
+// 1 if filter_yes passes at position n of eight rows. The compiler sees that the kernel at that position computes the same.
+fn mark_at16(rows: &[[i16; 16]; 8], n: usize, edge: EdgeLimits) -> u16
+    requires { ⌜ SignedRows 8 16 (now rows) ⌝ }
+    requires { ⌜ n < 16 ⌝ }
+    ensures { λ r. ⌜ r ≡ mark (yesOf (edge .interior) (edge .limit) (now (rows .entry)) n) ⌝ }
+{
+    one_if(normal_yes(
+        edge.interior,
+        edge.limit,
+        tap16(rows, 0, n),
+        tap16(rows, 1, n),
+        tap16(rows, 2, n),
+        tap16(rows, 3, n),
+        tap16(rows, 4, n),
+        tap16(rows, 5, n),
+        tap16(rows, 6, n),
+        tap16(rows, 7, n),
+    ))
+}
+
 // mb_filter at position n of eight rows.
 fn mb_at16(rows: &[[i16; 16]; 8], n: usize, edge: EdgeLimits) -> InnerTaps
     requires { ⌜ SignedRows 8 16 (now rows) ⌝ }
@@ -307,15 +334,19 @@ fn mb_at16(rows: &[[i16; 16]; 8], n: usize, edge: EdgeLimits) -> InnerTaps
 }
 
 // normal_filter_run at a macroblock's edge of 16 samples.
-pub(crate) fn mb_run16(taps: [[i16; 16]; 8], edge: EdgeLimits) -> [[i16; 16]; 8]
+pub(crate) fn mb_run16(taps: [[i16; 16]; 8], edge: EdgeLimits, passed: &mut u16) -> [[i16; 16]; 8]
     requires { ⌜ SignedRows 8 16 taps ⌝ }
     ensures { λ r. ⌜ r ≡ runOfEight (mbFilter (edge .threshold) (edge .interior) (edge .limit)) 16 taps ⌝ }
+    ensures { λ _. ⌜ now (passed .exit) ≡ marksOf (yesOf (edge .interior) (edge .limit) taps) 16 ⌝ }
 {
     let mut rows = taps;
+    let mut marks: u16 = 0;
     for n in 0..16 {
         let s = mb_at16(&taps, n, edge);
         set_inner16(&mut rows, n, s);
+        marks += mark_at16(&taps, n, edge);
     }
+    *passed = marks;
     rows
 }
 
@@ -339,15 +370,19 @@ fn sub_at16(rows: &[[i16; 16]; 8], n: usize, edge: EdgeLimits) -> InnerTaps
 }
 
 // normal_filter_run at an inner edge of 16 samples.
-pub(crate) fn sub_run16(taps: [[i16; 16]; 8], edge: EdgeLimits) -> [[i16; 16]; 8]
+pub(crate) fn sub_run16(taps: [[i16; 16]; 8], edge: EdgeLimits, passed: &mut u16) -> [[i16; 16]; 8]
     requires { ⌜ SignedRows 8 16 taps ⌝ }
     ensures { λ r. ⌜ r ≡ runOfEight (subblockFilter (edge .threshold) (edge .interior) (edge .limit)) 16 taps ⌝ }
+    ensures { λ _. ⌜ now (passed .exit) ≡ marksOf (yesOf (edge .interior) (edge .limit) taps) 16 ⌝ }
 {
     let mut rows = taps;
+    let mut marks: u16 = 0;
     for n in 0..16 {
         let s = sub_at16(&taps, n, edge);
         set_inner16(&mut rows, n, s);
+        marks += mark_at16(&taps, n, edge);
     }
+    *passed = marks;
     rows
 }
 
@@ -382,6 +417,26 @@ fn set_inner8(rows: &mut [[i16; 8]; 8], n: usize, s: InnerTaps)
     set_tap8(rows, 6, n, s.q2);
 }
 
+// 1 if filter_yes passes at position n of eight rows. The compiler sees that the kernel at that position computes the same.
+fn mark_at8(rows: &[[i16; 8]; 8], n: usize, edge: EdgeLimits) -> u16
+    requires { ⌜ SignedRows 8 8 (now rows) ⌝ }
+    requires { ⌜ n < 8 ⌝ }
+    ensures { λ r. ⌜ r ≡ mark (yesOf (edge .interior) (edge .limit) (now (rows .entry)) n) ⌝ }
+{
+    one_if(normal_yes(
+        edge.interior,
+        edge.limit,
+        tap8(rows, 0, n),
+        tap8(rows, 1, n),
+        tap8(rows, 2, n),
+        tap8(rows, 3, n),
+        tap8(rows, 4, n),
+        tap8(rows, 5, n),
+        tap8(rows, 6, n),
+        tap8(rows, 7, n),
+    ))
+}
+
 // mb_filter at position n of eight rows.
 fn mb_at8(rows: &[[i16; 8]; 8], n: usize, edge: EdgeLimits) -> InnerTaps
     requires { ⌜ SignedRows 8 8 (now rows) ⌝ }
@@ -402,15 +457,19 @@ fn mb_at8(rows: &[[i16; 8]; 8], n: usize, edge: EdgeLimits) -> InnerTaps
 }
 
 // normal_filter_run at a macroblock's edge of 8 samples.
-pub(crate) fn mb_run8(taps: [[i16; 8]; 8], edge: EdgeLimits) -> [[i16; 8]; 8]
+pub(crate) fn mb_run8(taps: [[i16; 8]; 8], edge: EdgeLimits, passed: &mut u16) -> [[i16; 8]; 8]
     requires { ⌜ SignedRows 8 8 taps ⌝ }
     ensures { λ r. ⌜ r ≡ runOfEight (mbFilter (edge .threshold) (edge .interior) (edge .limit)) 8 taps ⌝ }
+    ensures { λ _. ⌜ now (passed .exit) ≡ marksOf (yesOf (edge .interior) (edge .limit) taps) 8 ⌝ }
 {
     let mut rows = taps;
+    let mut marks: u16 = 0;
     for n in 0..8 {
         let s = mb_at8(&taps, n, edge);
         set_inner8(&mut rows, n, s);
+        marks += mark_at8(&taps, n, edge);
     }
+    *passed = marks;
     rows
 }
 
@@ -434,21 +493,26 @@ fn sub_at8(rows: &[[i16; 8]; 8], n: usize, edge: EdgeLimits) -> InnerTaps
 }
 
 // normal_filter_run at an inner edge of 8 samples.
-pub(crate) fn sub_run8(taps: [[i16; 8]; 8], edge: EdgeLimits) -> [[i16; 8]; 8]
+pub(crate) fn sub_run8(taps: [[i16; 8]; 8], edge: EdgeLimits, passed: &mut u16) -> [[i16; 8]; 8]
     requires { ⌜ SignedRows 8 8 taps ⌝ }
     ensures { λ r. ⌜ r ≡ runOfEight (subblockFilter (edge .threshold) (edge .interior) (edge .limit)) 8 taps ⌝ }
+    ensures { λ _. ⌜ now (passed .exit) ≡ marksOf (yesOf (edge .interior) (edge .limit) taps) 8 ⌝ }
 {
     let mut rows = taps;
+    let mut marks: u16 = 0;
     for n in 0..8 {
         let s = sub_at8(&taps, n, edge);
         set_inner8(&mut rows, n, s);
+        marks += mark_at8(&taps, n, edge);
     }
+    *passed = marks;
     rows
 }
 
-pub(crate) fn simple_run(taps: [[i16; 16]; 4], edge_limit: u8) -> [[i16; 16]; 4]
+pub(crate) fn simple_run(taps: [[i16; 16]; 4], edge_limit: u8, passed: &mut u16) -> [[i16; 16]; 4]
     requires { ⌜ SignedRows 4 16 taps ⌝ }
     ensures { λ r. ⌜ r ≡ runOfFour (simpleSegment «edge_limit») 16 taps ⌝ }
+    ensures { λ _. ⌜ now (passed .exit) ≡ marksOf (simpleOf «edge_limit» taps) 16 ⌝ }
 {
     let r0 = taps[0];
     let r1 = taps[1];
@@ -456,12 +520,19 @@ pub(crate) fn simple_run(taps: [[i16; 16]; 4], edge_limit: u8) -> [[i16; 16]; 4]
     let r3 = taps[3];
     let mut o1 = r1;
     let mut o2 = r2;
+    let mut marks: u16 = 0;
     for n in 0..16 {
-        let s = simple_position(edge_limit, r0[n], r1[n], r2[n], r3[n]);
+        let p1 = r0[n];
+        let p0 = r1[n];
+        let q0 = r2[n];
+        let q1 = r3[n];
+        let s = simple_position(edge_limit, p1, p0, q0, q1);
         let v1 = s.p0;
         let v2 = s.q0;
         o1[n] = v1;
         o2[n] = v2;
+        marks += one_if(edge_yes(edge_limit, p1, p0, q0, q1));
     }
+    *passed = marks;
     [r0, o1, o2, r3]
 }

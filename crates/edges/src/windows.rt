@@ -26,8 +26,9 @@ pub fn mb_filter_window(
             mbedge_limit: edge_limit,
             sub_bedge_limit: edge_limit,
         };
-        v_mb(seg, 8, base, 1, limits);
-        KernelAnswer::Done
+        let mut missed: usize = 0;
+        v_mb(seg, 8, base, 1, limits, &mut missed);
+        KernelAnswer::Done(missed == 0)
     } else {
         KernelAnswer::NoWindow
     }
@@ -51,8 +52,9 @@ pub fn subblock_filter_window(
             mbedge_limit: edge_limit,
             sub_bedge_limit: edge_limit,
         };
-        v_sub(seg, 8, base, 1, limits);
-        KernelAnswer::Done
+        let mut missed: usize = 0;
+        v_sub(seg, 8, base, 1, limits, &mut missed);
+        KernelAnswer::Done(missed == 0)
     } else {
         KernelAnswer::NoWindow
     }

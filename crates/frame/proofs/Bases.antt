@@ -4,14 +4,19 @@ use mathlib.Core.List.{List}
 use Prim.Native.Nat.{ℕ, _+_, _-_, _*_, _/_, _%_, _≤_, _<_}
 use native.Mathlib.Nat.{add-mul, mul-le-mul-right, div-add-mod'}
 use native.Mathlib.Omega.{arith}
-use lib.ListN.{length}
+use lib.ListN.{length, getD}
 use borrow.Rule.Slice.PartMut.{midOf, putMid}
-use Rattle.kernels.specs.Segment.{half, taps, segment, windowed}
-use Rattle.planes.specs.Steps.{steps}
+use Rattle.kernels.specs.Segment.{half, taps, segment, passesAt, mark, windowed}
+use Rattle.planes.specs.Steps.{steps, tally}
 use Rattle.planes.specs.Planes.{Planes, Grid, side, stride, plane, StridesHold, PlanesHold}
 use Rattle.planes.specs.Edges.{Direction, vertical, horizontal, tapAt, firstRow, firstColumn, Edge, edgeTap, filterEdge}
-use Rattle.edges.specs.EdgeFrom.{tapFrom, edgeFrom}
+use Rattle.planes.specs.Smoothed.{edgeSmoothed}
+use Rattle.planes.specs.Private.Worked.{Worked, workEdge}
+use Rattle.edges.specs.EdgeFrom.{tapFrom, edgeFrom, smoothedFrom}
+use Rattle.frame.specs.Private.PlaneEdges.{along}
 use Rattle.planes.proofs.Steps.{steps-ext}
+use Rattle.planes.proofs.Tally.{tally-ext}
+use Rattle.kernels.proofs.SegmentLaws.{passes-same}
 use Rattle.kernels.proofs.LentWindows.{segment-at, windowed-lent}
 use Rattle.planes.proofs.Fits.{Fits, Tap, edge-tap, square-within}
 
@@ -38,6 +43,20 @@ module _ (g : Grid) (r c : ℕ) (e : Edge) where
   edge-from l =
       steps-ext (λ j. segment (e .kernel) (edgeTap g r c e j)) (λ j. segment (e .kernel) (tapFrom (e .direction) (stride g (e .on)) (edgeBase g r c e) j)) (side (e .on))
       (λ j _ l′. position-from j l′) 0 (side (e .on)) (omega arith) l
+
+  pub counted-from : (l : List ℕ) → edgeSmoothed g r c e l ≡ smoothedFrom (e .direction) (e .kernel) (stride g (e .on)) (edgeBase g r c e) (side (e .on)) l
+  unfolding edgeSmoothed smoothedFrom
+  counted-from l =
+      tally-ext (λ j. segment (e .kernel) (edgeTap g r c e j)) (λ j. segment (e .kernel) (tapFrom (e .direction) (stride g (e .on)) (edgeBase g r c e) j))
+      (λ j l′. mark (passesAt (e .kernel) (edgeTap g r c e j) l′)) (λ j l′. mark (passesAt (e .kernel) (tapFrom (e .direction) (stride g (e .on)) (edgeBase g r c e) j) l′)) (side (e .on))
+      (λ j _ l′. position-from j l′)
+      (λ j _ l′. ap mark (passes-same (e .kernel) (edgeTap g r c e j) (tapFrom (e .direction) (stride g (e .on)) (edgeBase g r c e) j) l′ l′ (λ t _. ap (λ (i : ℕ). getD l′ i 0) (edge-tap-from j t))))
+      0 (side (e .on)) (omega arith) l
+
+  -- both
+  pub work-from : (w : Worked) → workEdge g r c e w ≡ along (e .direction) (e .kernel) (stride g (e .on)) (edgeBase g r c e) (side (e .on)) w
+  unfolding workEdge along
+  work-from w = λ i. record { samples = edge-from (w .samples) i; smoothed = w .smoothed + counted-from (w .samples) i }
 
   -- position j of a vertical edge is the window lent from mid-row, `plane[a..z]`
   pub vertical-lent : e .direction ≡ vertical → (j a z : ℕ) (l ys : List ℕ) → a ≡ edgeBase g r c e + j * stride g (e .on) → z ≡ a + taps (e .kernel) → z ≤ length l

@@ -1,9 +1,9 @@
 -- Laws of the passes: a turn of their loop, what their judge's answer comes to, and what its range asks. Assumes nothing.
-use mathlib.Core.Path.{_≡_, refl, _∙_}
+use mathlib.Core.Path.{_≡_, refl, ap, ap₂, _∙_}
 use mathlib.Core.Bool.{Bool, true, false, not, _||_, _&&_}
 use mathlib.Core.List.{List}
 use mathlib.Core.Logic.{⊎-elim}
-use Prim.Native.Nat.{ℕ, _+_, _-_, _≤_, _<_}
+use Prim.Native.Nat.{ℕ, _+_, _-_, _*_, _≤_, _<_}
 use native.Mathlib.Nat.{eq-zero-or-pos}
 use native.Mathlib.Omega.{arith}
 use lib.Dec.{ltb, eqb}
@@ -11,22 +11,27 @@ use lib.ListN.{length}
 use borrow.Author.Tests.{eqb-true, not-false}
 use Rattle.levels.specs.Encodings.{badMode, badReference, badInterMode}
 use Rattle.levels.specs.declared.config.FrameFilterConfig.{FrameFilterConfig}
-use Rattle.planes.specs.Steps.{steps}
+use Rattle.planes.specs.Steps.{steps, tally}
 use Rattle.planes.specs.Planes.{Planes, Grid, macroblocks}
 use Rattle.planes.specs.Macroblock.{Plan, filterMacroblock}
+use Rattle.planes.specs.Smoothed.{macroblockSmoothed}
 use Rattle.calls.specs.Entries.{Entry, KeyLists, InterLists, KeyCarried, InterCarried, lengthIsNot, keyLengthsWrong, interLengthsWrong, anyOf}
 use Rattle.calls.specs.Pass.{Pass, keyPass, interPass, Call, step}
+use Rattle.calls.specs.Smoothed.{stepSmoothed}
 use Rattle.planes.specs.Layout.{gridOf}
-use Rattle.calls.specs.Answers.{Passed}
+use Rattle.calls.specs.Answers.{passOutcome, partOutcome, Passed}
+use Rattle.calls.specs.declared.answers.PassAnswer.{PassAnswer}
 use Rattle.calls.specs.PassCalls.{keyCall, interCall}
 use Rattle.frame.specs.Private.Ranges.{Sound, Range, KeyRange, InterRange}
-use Rattle.judge.specs.Batches.{lengthsWrong, batchOf}
+use Rattle.judge.specs.Batches.{lengthsWrong, withTotal, batchOf}
 use Rattle.planes.specs.declared.layout.PlaneLayout.{PlaneLayout}
 use Rattle.judge.specs.declared.batch.Batch.{Batch}
 use Rattle.planes.proofs.Steps.{steps-last}
+use Rattle.planes.proofs.Tally.{tally-last, tally-most}
+use Rattle.planes.proofs.SmoothedLaws.{macroblock-most, same-smoothed}
 use Rattle.calls.proofs.EntryLaws.{key-bad, inter-bad}
 use Rattle.planes.proofs.GridLaws.{neither}
-use Rattle.judge.proofs.Judgement.{Sized, Meets, batch-meets}
+use Rattle.judge.proofs.Judgement.{Sized, smoothedBy, Meets, batch-meets}
 use Rattle.frame.proofs.Soundness.{sound}
 
 -- ---- a turn of the loop
@@ -50,6 +55,31 @@ module _ (W : Pass) (g : Grid) (settings : FrameFilterConfig) (entries : ℕ →
       let j : from + (m - from) ≡ m = omega arith in
       r ∙ own-plan g (λ k. W .plan settings (entries k)) P m p e
       ∙ rw (i, steps-last (step W g settings entries) from (m - from) p₀, j, q)
+
+  pub no-count : 0 ≡ tally (step W g settings entries) (stepSmoothed W g settings entries) from (from - from) p₀
+  unfolding tally
+  no-count = let e : from - from ≡ 0 = omega arith in rw e
+
+  -- what a turn adds to the total
+  pub one-count : (m : ℕ) (P : Plan) (p : Planes) (s s′ : ℕ) → from ≤ m → P ≡ W .plan settings (entries m)
+      → p ≡ steps (step W g settings entries) from (m - from) p₀ → s ≡ tally (step W g settings entries) (stepSmoothed W g settings entries) from (m - from) p₀
+      → s′ ≡ macroblockSmoothed g (λ _. P) m p → s + s′ ≡ tally (step W g settings entries) (stepSmoothed W g settings entries) from (m + 1 - from) p₀
+  unfolding stepSmoothed
+  one-count m P p s s′ h e q es r =
+      let i : m + 1 - from ≡ m - from + 1 = omega arith in
+      let j : from + (m - from) ≡ m = omega arith in
+      ap₂ {C = ℕ} (λ x y. x + y) es (r ∙ same-smoothed g (λ _. P) (λ k. W .plan settings (entries k)) m p e)
+      ∙ rw (i, tally-last (step W g settings entries) (stepSmoothed W g settings entries) from (m - from) p₀, j, q)
+
+  -- no total comes near 2 ^ 64
+  pub few-counted : (m : ℕ) → tally (step W g settings entries) (stepSmoothed W g settings entries) from (m - from) p₀ ≤ 192 * m
+  unfolding stepSmoothed
+  few-counted m =
+      omega (arith, tally-most (step W g settings entries) (stepSmoothed W g settings entries) 192 (λ k p. macroblock-most g (λ i. W .plan settings (entries i)) k p) from (m - from) p₀)
+
+  pub few-after : (m : ℕ) (P : Plan) (p : Planes) (s s′ : ℕ) → s ≡ tally (step W g settings entries) (stepSmoothed W g settings entries) from (m - from) p₀
+      → s′ ≡ macroblockSmoothed g (λ _. P) m p → s + s′ ≤ 192 * (m + 1)
+  few-after m P p s s′ es r = omega (arith, few-counted m, macroblock-most g (λ _. P) m p)
 
 -- ---- 5, from one length and whether the others are the same
 
@@ -154,11 +184,11 @@ module _ (layout : PlaneLayout) (p : Planes) (config : FrameFilterConfig) (start
       planned interPass (interCall p layout l config start allowance) (lengthsWrong alike (length (l .modes)) (macroblocks (gridOf layout))) bad r
       (inter-lengths l (macroblocks (gridOf layout)) alike e) (inter-bad l bad f) q
 
--- the judge's answer, once its steps are done
-pub ends : {W : Pass} {a : Call W} {r : Batch} → Meets W a r → (p : Planes)
+-- the judge's answer, once its steps are done and counted
+pub ends : {W : Pass} {a : Call W} {r : Batch} → Meets W a r → (p : Planes) (s : ℕ) (x : PassAnswer)
     → p ≡ steps (step W (a .grid) (a .settings) (W .entry (a .carried))) (r .from) (r .to - r .from) (a .lent)
-    → Passed W a (r .answer) p
-ends m p e = record { answered = m .answers; filtered = e ∙ m .leaves }
+    → s ≡ smoothedBy W a (r .from) (r .to - r .from) → x ≡ withTotal (r .answer) s → Passed W a x p
+ends m p s x e q ex = record { answered = ap passOutcome ex ∙ m .answers s; counted = ap partOutcome ex ∙ m .counts s q; filtered = e ∙ m .leaves }
 
 -- ---- what its range asks
 

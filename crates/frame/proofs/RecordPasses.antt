@@ -2,28 +2,35 @@
 use mathlib.Core.Path.{_≡_, refl, sym, ap, _∙_}
 use mathlib.Core.Bool.{true, false}
 use mathlib.Core.List.{List}
-use Prim.Native.Nat.{ℕ, _+_, _-_, _≤_, _<_}
+use Prim.Native.Nat.{ℕ, zero, suc, _+_, _-_, _*_, _≤_, _<_, _^_}
 use native.Mathlib.Omega.{arith}
 use lib.Dec.{eqb}
 use lib.ListN.{length, getD}
 use borrow.Author.Tests.{eqb-true, not-false}
 use Rattle.levels.specs.declared.config.FrameFilterConfig.{FrameFilterConfig}
-use Rattle.planes.specs.Steps.{steps}
+use Rattle.planes.specs.Steps.{steps, tally}
 use Rattle.planes.specs.Planes.{luma, chromaU, chromaV, Planes, macroblocks}
 use Rattle.planes.specs.Macroblock.{filterMacroblock}
+use Rattle.planes.specs.Smoothed.{macroblockSmoothed}
 use Rattle.calls.specs.Entries.{Entry, KeyCarried, InterCarried, keyRecord, interRecord, noRecord, lengthIsNot}
 use Rattle.calls.specs.Pass.{Pass, keyPass, interPass, Call, step}
+use Rattle.calls.specs.Smoothed.{stepSmoothed}
 use Rattle.planes.specs.Layout.{gridOf}
 use Rattle.calls.specs.Answers.{Passed}
+use Rattle.calls.specs.declared.answers.PassAnswer.{PassAnswer}
 use Rattle.frame.specs.Private.Ranges.{Sound}
-use Rattle.judge.specs.Batches.{lengthsWrong, batchOf}
+use Rattle.judge.specs.Batches.{lengthsWrong, withTotal, batchOf}
 use Rattle.planes.specs.declared.layout.PlaneLayout.{PlaneLayout}
 use Rattle.judge.specs.declared.batch.Batch.{Batch}
 use Rattle.calls.specs.declared.records.MacroblockModes.{MacroblockModes}
 use Rattle.planes.proofs.Alike.{length-steps}
+use Rattle.planes.proofs.GridLaws.{grid-fits}
 use Rattle.judge.proofs.Judgement.{Sized, Meets, batch-meets}
 use Rattle.frame.proofs.Soundness.{sound, sound-kept}
 use Rattle.planes.proofs.Steps.{steps-last}
+use Rattle.planes.proofs.Tally.{tally-last, tally-most}
+use Rattle.planes.proofs.SmoothedLaws.{macroblock-most}
+use Rattle.frame.proofs.Passes.{ends}
 
 -- a pass, and what it makes of a list of records
 pub record OfRecords : Type 1 where
@@ -71,6 +78,31 @@ module _ (K : OfRecords) (layout : PlaneLayout) (config : FrameFilterConfig) (rs
   abbrev pub planesAt : (from n : ℕ) → Planes
   planesAt from n = steps (step (K .pass) (gridOf layout) config (K .pass .entry (K .carry rs))) from n p₀
 
+  -- and how many positions they smoothed
+  abbrev pub totalAt : (from n : ℕ) → ℕ
+  totalAt from n = tally (step (K .pass) (gridOf layout) config (K .pass .entry (K .carry rs))) (stepSmoothed (K .pass) (gridOf layout) config (K .pass .entry (K .carry rs))) from n p₀
+
+  pub no-total : (from : ℕ) → 0 ≡ totalAt from 0
+  unfolding tally
+  no-total from = refl
+
+  pub one-total : (from n r : ℕ)
+      → r ≡ totalAt from n + macroblockSmoothed (gridOf layout) (λ _. K .pass .plan config (K .says (getD rs (from + n) noRecord))) (from + n) (planesAt from n) → r ≡ totalAt from (n + 1)
+  unfolding stepSmoothed macroblockSmoothed
+  one-total from n r e =
+      e
+      ∙ ap (λ (x : Entry). totalAt from n + macroblockSmoothed (gridOf layout) (λ _. K .pass .plan config x) (from + n) (planesAt from n)) (K .entries rs (from + n))
+      ∙ sym (tally-last (step (K .pass) (gridOf layout) config (K .pass .entry (K .carry rs))) (stepSmoothed (K .pass) (gridOf layout) config (K .pass .entry (K .carry rs))) from n p₀)
+
+  pub total-most : (from n : ℕ) → totalAt from n ≤ 192 * (from + n)
+  unfolding stepSmoothed
+  total-most from n =
+      omega (
+        arith,
+        tally-most (step (K .pass) (gridOf layout) config (K .pass .entry (K .carry rs))) (stepSmoothed (K .pass) (gridOf layout) config (K .pass .entry (K .carry rs))) 192
+            (λ m p. macroblock-most (gridOf layout) (λ i. K .pass .plan config (K .pass .entry (K .carry rs) i)) m p) from n p₀,
+      )
+
   pub no-step : (from : ℕ) → p₀ ≡ planesAt from 0
   unfolding steps
   no-step from = refl
@@ -105,14 +137,23 @@ module _ (K : OfRecords) (layout : PlaneLayout) (config : FrameFilterConfig) (rs
         omega (arith, h, met .within, eqb-true (length rs) (macroblocks (gridOf layout)) (not-false (eqb (length rs) (macroblocks (gridOf layout))) (K .lengths rs (macroblocks (gridOf layout)) ∙ sized m h .lengths)))
 
     -- and its step may be done
-    pub ready : (n m : ℕ) → m < r .to → Sound layout (planesAt (r .from) n .y) (planesAt (r .from) n .u) (planesAt (r .from) n .v) × (m < macroblocks (gridOf layout))
-    ready n m h =
-        let s = sized m h in
+    pub ready : (n : ℕ) → r .from + n < r .to
+        → Sound layout (planesAt (r .from) n .y) (planesAt (r .from) n .u) (planesAt (r .from) n .v) × (r .from + n < macroblocks (gridOf layout)) × (totalAt (r .from) n ≤ 192 * (r .from + n))
+    ready n h =
+        let s = sized (r .from + n) h in
         let l = long (r .from) n in (
           sound-kept layout (p₀ .y) (p₀ .u) (p₀ .v) _ _ _ (l .y) (l .u) (l .v) (sound layout (p₀ .y) (p₀ .u) (p₀ .v) (s .large) (s .strides) (s .short)),
           omega (arith, h, met .within),
+          total-most (r .from) n,
         )
 
+    -- the total stands in a word
+    pub total-fits : (n : ℕ) → n ≤ r .to - r .from → totalAt (r .from) n < 2 ^ 64
+    total-fits zero h = omega (arith, sym (no-total (r .from)))
+    total-fits (suc n) h =
+        let s = ready n (omega (arith, h, ordered)) .0 in
+        omega (arith, h, ordered, total-most (r .from) (suc n), met .within, grid-fits (layout .«mb_cols») (layout .«mb_rows») (s .columns) (s .rows))
+
     -- once all are done
-    pub passed : (n : ℕ) → n ≡ r .to - r .from → Passed (K .pass) callOf (r .answer) (planesAt (r .from) n)
-    passed n en = record { answered = met .answers; filtered = ap (planesAt (r .from)) en ∙ met .leaves }
+    pub passed : (n : ℕ) → n ≡ r .to - r .from → (x : PassAnswer) → x ≡ withTotal (r .answer) (totalAt (r .from) n) → Passed (K .pass) callOf x (planesAt (r .from) n)
+    passed n en x ex = ends met (planesAt (r .from) n) (totalAt (r .from) n) x (ap (planesAt (r .from)) en) (ap (totalAt (r .from)) en) ex

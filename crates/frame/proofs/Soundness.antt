@@ -6,7 +6,8 @@ use Prim.Native.Nat.{ℕ, _+_, _-_, _*_, _≤_}
 use lib.Dec.{ltb}
 use lib.ListN.{length}
 use borrow.Author.Tests.{ltb-false}
-use Rattle.planes.specs.Planes.{Plane, luma, chromaU, chromaV, side, stride, plane, StridesHold, PlanesHold}
+use Rattle.planes.specs.Planes.{Plane, luma, chromaU, chromaV, side, stride, plane, macroblocks, StridesHold, PlanesHold}
+use native.Mathlib.Nat.{mul-le-mul}
 use Rattle.planes.specs.GridRefusals.{tooLarge, badStrides, needed, shortBy}
 use Rattle.planes.specs.Layout.{gridOf, planesOf}
 use Rattle.planes.specs.declared.layout.PlaneLayout.{PlaneLayout}
@@ -54,3 +55,7 @@ sound-kept l y u v y′ u′ v′ a b c s =
       lumaStride = s .lumaStride;
       chromaStride = s .chromaStride;
     }
+
+-- no more macroblocks than 1 leaves
+pub few-macroblocks : (l : PlaneLayout) (y u v : List ℕ) → Sound l y u v → macroblocks (gridOf l) ≤ 1048576
+few-macroblocks l y u v s = mul-le-mul (s .columns) (s .rows)

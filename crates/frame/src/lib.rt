@@ -6,3 +6,4 @@ pub mod record_pass;
 mod record_step;
 mod simple;
 mod step;
+mod total;

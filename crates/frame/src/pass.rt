@@ -4,6 +4,7 @@ use crate::decode::inter_mode_of;
 use crate::decode::mode_of;
 use crate::decode::reference_of;
 use crate::step::filter_macroblock;
+use crate::total::counted;
 use calls::answers::PassAnswer;
 use judge::batch::judge_call;
 use judge::entries::any_above;
@@ -14,15 +15,13 @@ use levels::config::FrameFilterConfig;
 use levels::level::key_mb_level;
 use levels::level::mb_level;
 use planes::layout::PlaneLayout;
-ghost use mathlib.Core.Path.{_≡_};
-ghost use Prim.Native.Nat.{_-_};
 ghost use Rattle.calls.specs.Answers.{Passed};
 ghost use Rattle.calls.specs.Entries.{keyEntry, interEntry};
 ghost use Rattle.planes.specs.Layout.{gridOf, planesOf};
 ghost use Rattle.calls.specs.Pass.{keyPass, interPass, step};
+ghost use Rattle.calls.specs.Smoothed.{stepSmoothed};
 ghost use Rattle.calls.specs.PassCalls.{keyCall, interCall, keyLists, interLists};
-ghost use Rattle.frame.specs.Private.Ranges.{KeyRange, InterRange};
-ghost use Rattle.planes.specs.Steps.{steps};
+ghost use Rattle.frame.specs.Private.Ranges.{KeyRange, InterRange, Ranged};
 
 // Macroblocks `from` to `to` - 1 of the key pass.
 fn filter_key_range(
@@ -36,20 +35,22 @@ fn filter_key_range(
     config: FrameFilterConfig,
     from: usize,
     to: usize,
-)
+) -> usize
     requires { ⌜ KeyRange layout (planesOf (now y) (now u) (now v)) (keyLists (now modes) (now segments) (now flags)) from to ⌝ }
-    ensures { λ _. ⌜ planesOf (now (y .exit)) (now (u .exit)) (now (v .exit))
-        ≡ steps (step keyPass (gridOf layout) config (keyEntry (keyLists (now (modes .entry)) (now (segments .entry)) (now (flags .entry)))))
-        from (to - from) (planesOf (now (y .entry)) (now (u .entry)) (now (v .entry))) ⌝ }
+    ensures { λ r. ⌜ Ranged (step keyPass (gridOf layout) config (keyEntry (keyLists (now (modes .entry)) (now (segments .entry)) (now (flags .entry)))))
+        (stepSmoothed keyPass (gridOf layout) config (keyEntry (keyLists (now (modes .entry)) (now (segments .entry)) (now (flags .entry)))))
+        from to (planesOf (now (y .entry)) (now (u .entry)) (now (v .entry))) (planesOf (now (y .exit)) (now (u .exit)) (now (v .exit))) r ⌝ }
 {
+    let mut smoothed: usize = 0;
     let mut m = from;
     while m < to {
         let mode = mode_of(modes[m]);
         let level = key_mb_level(config, segments[m], mode);
         let inside = inner_edges(mode, flags[m]);
-        filter_macroblock(y, u, v, layout, config, m, level, inside);
+        smoothed += filter_macroblock(y, u, v, layout, config, m, level, inside);
         m += 1;
     }
+    smoothed
 }
 
 // Macroblocks `from` to `to` - 1 of the inter pass.
@@ -66,14 +67,16 @@ fn filter_inter_range(
     config: FrameFilterConfig,
     from: usize,
     to: usize,
-)
+) -> usize
     requires { ⌜ InterRange layout (planesOf (now y) (now u) (now v))
         (interLists (now modes) (now segments) (now flags) (now references) (now «inter_modes»)) from to ⌝ }
-    ensures { λ _. ⌜ planesOf (now (y .exit)) (now (u .exit)) (now (v .exit))
-        ≡ steps (step interPass (gridOf layout) config (interEntry
+    ensures { λ r. ⌜ Ranged (step interPass (gridOf layout) config (interEntry
         (interLists (now (modes .entry)) (now (segments .entry)) (now (flags .entry)) (now (references .entry)) (now («inter_modes» .entry)))))
-        from (to - from) (planesOf (now (y .entry)) (now (u .entry)) (now (v .entry))) ⌝ }
+        (stepSmoothed interPass (gridOf layout) config (interEntry
+        (interLists (now (modes .entry)) (now (segments .entry)) (now (flags .entry)) (now (references .entry)) (now («inter_modes» .entry)))))
+        from to (planesOf (now (y .entry)) (now (u .entry)) (now (v .entry))) (planesOf (now (y .exit)) (now (u .exit)) (now (v .exit))) r ⌝ }
 {
+    let mut smoothed: usize = 0;
     let mut m = from;
     while m < to {
         let mode = mode_of(modes[m]);
@@ -81,9 +84,10 @@ fn filter_inter_range(
         let inter_mode = inter_mode_of(inter_modes[m]);
         let level = mb_level(config, segments[m], reference, inter_mode, mode);
         let inside = inner_edges(mode, flags[m]);
-        filter_macroblock(y, u, v, layout, config, m, level, inside);
+        smoothed += filter_macroblock(y, u, v, layout, config, m, level, inside);
         m += 1;
     }
+    smoothed
 }
 
 // The key pass. It reads modes, segments and flags only.
@@ -117,7 +121,7 @@ pub fn filter_frame(
         start,
         allowance,
     );
-    filter_key_range(
+    let smoothed = filter_key_range(
         y,
         u,
         v,
@@ -129,7 +133,7 @@ pub fn filter_frame(
         batch.from,
         batch.to,
     );
-    batch.answer
+    counted(batch, smoothed)
 }
 
 // The inter pass.
@@ -172,7 +176,7 @@ pub fn filter_inter_frame(
         start,
         allowance,
     );
-    filter_inter_range(
+    let smoothed = filter_inter_range(
         y,
         u,
         v,
@@ -186,5 +190,5 @@ pub fn filter_inter_frame(
         batch.from,
         batch.to,
     );
-    batch.answer
+    counted(batch, smoothed)
 }

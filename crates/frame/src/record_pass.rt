@@ -2,6 +2,7 @@
 use crate::record_step::inter_step;
 use crate::record_step::judge_records;
 use crate::record_step::key_step;
+use crate::total::counted;
 use calls::answers::PassAnswer;
 use calls::records::MacroblockModes;
 use levels::config::FrameFilterConfig;
@@ -35,12 +36,13 @@ pub fn filter_frame_records(
         start,
         allowance,
     );
+    let mut smoothed: usize = 0;
     let mut m = batch.from;
     while m < batch.to {
-        key_step(y, u, v, layout, config, m, list[m]);
+        smoothed = key_step(y, u, v, layout, config, m, list[m], smoothed);
         m += 1;
     }
-    batch.answer
+    counted(batch, smoothed)
 }
 
 // The inter pass.
@@ -67,10 +69,11 @@ pub fn filter_inter_frame_records(
         start,
         allowance,
     );
+    let mut smoothed: usize = 0;
     let mut m = batch.from;
     while m < batch.to {
-        inter_step(y, u, v, layout, config, m, list[m]);
+        smoothed = inter_step(y, u, v, layout, config, m, list[m], smoothed);
         m += 1;
     }
-    batch.answer
+    counted(batch, smoothed)
 }

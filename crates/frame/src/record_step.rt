@@ -11,15 +11,14 @@ use levels::level::mb_level;
 use planes::layout::PlaneLayout;
 ghost use mathlib.Core.Bool.{true, false};
 ghost use mathlib.Core.Path.{_≡_};
-ghost use Prim.Native.Nat.{_<_};
+ghost use Prim.Native.Nat.{_*_, _≤_, _<_};
 ghost use Rattle.levels.specs.Levels.{keyLevel, interLevel};
 ghost use Rattle.calls.specs.Entries.{segmentByte, keyRecord, interRecord};
 ghost use Rattle.planes.specs.Layout.{gridOf, planesOf};
-ghost use Rattle.planes.specs.Macroblock.{filterMacroblock};
 ghost use Rattle.calls.specs.Pass.{insideOf, keyPlan, interPlan};
 ghost use Rattle.planes.specs.Planes.{macroblocks};
 ghost use Rattle.judge.specs.Batches.{lengthsWrong, seen, batchOf};
-ghost use Rattle.frame.specs.Private.Ranges.{Sound};
+ghost use Rattle.frame.specs.Private.Ranges.{Sound, SteppedOn};
 
 // None is written 0.
 fn segment_byte(segment: MaybeSegment) -> u8
@@ -61,7 +60,7 @@ fn record_inner_edges(mb: MacroblockModes) -> bool
     is_b(y_mode) | mb.has_coeffs
 }
 
-// The key pass's step of macroblock m, by its record.
+// The key pass's step of macroblock m, by its record. `smoothed` is the total so far.
 pub(crate) fn key_step(
     y: &mut [u8],
     u: &mut [u8],
@@ -70,17 +69,18 @@ pub(crate) fn key_step(
     config: FrameFilterConfig,
     m: usize,
     mb: MacroblockModes,
-)
-    requires { ⌜ Sound layout (now y) (now u) (now v) × (m < macroblocks (gridOf layout)) ⌝ }
-    ensures { λ _. ⌜ planesOf (now (y .exit)) (now (u .exit)) (now (v .exit))
-        ≡ filterMacroblock (gridOf layout) (λ _. keyPlan config (keyRecord mb)) m (planesOf (now (y .entry)) (now (u .entry)) (now (v .entry))) ⌝ }
+    smoothed: usize,
+) -> usize
+    requires { ⌜ Sound layout (now y) (now u) (now v) × (m < macroblocks (gridOf layout)) × (smoothed ≤ 192 * m) ⌝ }
+    ensures { λ r. ⌜ SteppedOn layout (keyPlan config (keyRecord mb)) m (planesOf (now (y .entry)) (now (u .entry)) (now (v .entry)))
+        (planesOf (now (y .exit)) (now (u .exit)) (now (v .exit))) smoothed r ⌝ }
 {
     let level = key_record_level(config, mb);
     let inside = record_inner_edges(mb);
-    filter_macroblock(y, u, v, layout, config, m, level, inside);
+    smoothed + filter_macroblock(y, u, v, layout, config, m, level, inside)
 }
 
-// The inter pass's step.
+// The inter pass's step. `smoothed` is the total so far.
 pub(crate) fn inter_step(
     y: &mut [u8],
     u: &mut [u8],
@@ -89,14 +89,15 @@ pub(crate) fn inter_step(
     config: FrameFilterConfig,
     m: usize,
     mb: MacroblockModes,
-)
-    requires { ⌜ Sound layout (now y) (now u) (now v) × (m < macroblocks (gridOf layout)) ⌝ }
-    ensures { λ _. ⌜ planesOf (now (y .exit)) (now (u .exit)) (now (v .exit))
-        ≡ filterMacroblock (gridOf layout) (λ _. interPlan config (interRecord mb)) m (planesOf (now (y .entry)) (now (u .entry)) (now (v .entry))) ⌝ }
+    smoothed: usize,
+) -> usize
+    requires { ⌜ Sound layout (now y) (now u) (now v) × (m < macroblocks (gridOf layout)) × (smoothed ≤ 192 * m) ⌝ }
+    ensures { λ r. ⌜ SteppedOn layout (interPlan config (interRecord mb)) m (planesOf (now (y .entry)) (now (u .entry)) (now (v .entry)))
+        (planesOf (now (y .exit)) (now (u .exit)) (now (v .exit))) smoothed r ⌝ }
 {
     let level = inter_record_level(config, mb);
     let inside = record_inner_edges(mb);
-    filter_macroblock(y, u, v, layout, config, m, level, inside);
+    smoothed + filter_macroblock(y, u, v, layout, config, m, level, inside)
 }
 
 // What a pass over so many records is to do. No record stands for a byte that 6 refuses.

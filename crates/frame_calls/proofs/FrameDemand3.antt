@@ -4,7 +4,9 @@ use Rattle.planes.specs.Planes.{Planes}
 use Rattle.calls.specs.Pass.{Call}
 use Rattle.calls.specs.Calls.{Picture, LastLeft, Calls, OfEveryCall, done, FurtherCalls, Promise}
 use Rattle.calls.specs.SentRows.{RowsSent, WhileDecoding}
+use Rattle.calls.specs.Smoothed.{OfEveryPart, PartsPromise}
 use Rattle.calls.proofs.Demand3.{every-call, demand-3}
+use Rattle.calls.proofs.Parts.{every-part, parts-promised}
 use Rattle.calls.proofs.SentRows.{rows-sent, while-decoding}
 use Rattle.frame_calls.specs.Skip.{keyFrame, interFrame}
 
@@ -16,6 +18,12 @@ every-key-frame-call = every-call keyFrame
 pub every-inter-frame-call : OfEveryCall interFrame
 every-inter-frame-call = every-call interFrame
 
+pub every-key-frame-part : OfEveryPart keyFrame
+every-key-frame-part = every-part keyFrame
+
+pub every-inter-frame-part : OfEveryPart interFrame
+every-inter-frame-part = every-part interFrame
+
 module _ (pic : Picture) (p : Planes) where
   -- ---- of a list of calls
 
@@ -24,6 +32,14 @@ module _ (pic : Picture) (p : Planes) where
 
   pub inter-frame-calls : (list : List (Call interFrame)) (h : LastLeft) → Calls interFrame pic (record { planes = p; start = 0 }) list h → Promise interFrame pic p list h
   inter-frame-calls = demand-3 interFrame pic p
+
+  -- ---- the parts of a list add up
+
+  pub key-frame-parts : (list : List (Call keyFrame)) (h : LastLeft) → Calls keyFrame pic (record { planes = p; start = 0 }) list h → PartsPromise keyFrame pic p list
+  key-frame-parts = parts-promised keyFrame pic p
+
+  pub inter-frame-parts : (list : List (Call interFrame)) (h : LastLeft) → Calls interFrame pic (record { planes = p; start = 0 }) list h → PartsPromise interFrame pic p list
+  inter-frame-parts = parts-promised interFrame pic p
 
   -- ---- the rows that `final_rows` counts after it
 

@@ -6,11 +6,14 @@ use lib.Dec.{eqb}
 use borrow.Author.Tests.{eqb-true}
 use Rattle.levels.specs.Levels.{clampLevel, baseLevel, segmentLevel, adjustedLevel, keyLevel, interLevel}
 use Rattle.levels.specs.declared.config.FrameFilterConfig.{FrameFilterConfig}
-use Rattle.planes.specs.Steps.{steps}
+use Rattle.planes.specs.Steps.{steps, tally}
+use Rattle.planes.specs.Smoothed.{macroblockSmoothed}
 use Rattle.planes.specs.Planes.{Planes}
 use Rattle.planes.specs.Macroblock.{Plan, leave, filterMacroblock}
 use Rattle.calls.specs.Entries.{Entry}
 use Rattle.calls.specs.Pass.{Pass, Call, keyPass, interPass, insideOf, planAt, keyPlan, interPlan, refusal, step, count, next, answer, planesAfter}
+use Rattle.arithmetic.specs.Outcome.{gives, refuses}
+use Rattle.calls.specs.Smoothed.{stepSmoothed, part}
 use Rattle.calls.specs.Answers.{Passed}
 use Rattle.calls.specs.declared.answers.PassAnswer.{PassAnswer}
 use Rattle.frame_calls.specs.Skip.{filterOff, skipping, frameCall}
@@ -101,6 +104,12 @@ module _ (W : Pass) (quiet : Quiet W) (a : Call W) where
       ap (λ (plan : ℕ → Plan). cond (eqb (refusal W a) 0) (steps (filterMacroblock (a .grid) plan) (a .start) (count W a) (a .lent)) (a .lent))
       (fun-ext (λ m. quiet (a .settings) (W .entry (a .carried) m)))
 
+  same-part : part W (at-settings (passSettings (a .settings)) a) ≡ part (skipping W) (frameCall W a)
+  unfolding part refusal count step stepSmoothed Quiet
+  same-part =
+      ap (λ (plan : ℕ → Plan). cond (eqb (refusal W a) 0) (gives (tally (filterMacroblock (a .grid) plan) (macroblockSmoothed (a .grid) plan) (a .start) (count W a) (a .lent))) (refuses (refusal W a)))
+      (fun-ext (λ m. quiet (a .settings) (W .entry (a .carried) m)))
+
   same-answer : answer W (at-settings (passSettings (a .settings)) a) ≡ answer (skipping W) (frameCall W a)
   unfolding answer refusal count next
   same-answer = refl
@@ -109,5 +118,6 @@ module _ (W : Pass) (quiet : Quiet W) (a : Call W) where
   pub framed : (s : FrameFilterConfig) (r : PassAnswer) (after : Planes) → s ≡ passSettings (a .settings) → Passed W (at-settings s a) r after → Passed (skipping W) (frameCall W a) r after
   framed s r after e passed = record {
     answered = passed .answered ∙ ap (λ (t : FrameFilterConfig). answer W (at-settings t a)) e ∙ same-answer;
+    counted = passed .counted ∙ ap (λ (t : FrameFilterConfig). part W (at-settings t a)) e ∙ same-part;
     filtered = passed .filtered ∙ ap (λ (t : FrameFilterConfig). planesAfter W (at-settings t a)) e ∙ same-planes;
   }

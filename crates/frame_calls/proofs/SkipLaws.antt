@@ -4,17 +4,23 @@ use mathlib.Core.Bool.{Bool, true, false, cond}
 use mathlib.Core.List.{List}
 use Prim.Native.Nat.{ℕ}
 use lib.Dec.{eqb}
-use Rattle.planes.specs.Steps.{steps}
+use Rattle.planes.specs.Steps.{steps, tally}
+use Rattle.planes.specs.Smoothed.{macroblockSmoothed}
+use Rattle.arithmetic.specs.Outcome.{Outcome, gives, refuses}
 use Rattle.planes.specs.Planes.{Planes, Grid}
-use Rattle.planes.specs.Macroblock.{leave, filterMacroblock}
+use Rattle.planes.specs.Macroblock.{Plan, leave, filterMacroblock}
 use Rattle.planes.specs.Edges.{places}
 use Rattle.calls.specs.Entries.{Entry}
 use Rattle.levels.specs.declared.config.FrameFilterConfig.{FrameFilterConfig}
 use Rattle.calls.specs.Pass.{Pass, Call, refusal, step, count, next, answer, planesAfter}
 use Rattle.calls.specs.Calls.{Picture, LastLeft, Calls, firstMacroblocks}
+use Rattle.calls.specs.Smoothed.{stepSmoothed, part, firstSmoothed}
 use Rattle.planes.proofs.Steps.{steps-inv}
 use Rattle.planes.proofs.StepParts.{macroblock-parts, leave-at}
 use Rattle.calls.proofs.Demand3.{demand-3}
+use Rattle.calls.proofs.Parts.{every-part, parts-promised}
+use Rattle.planes.proofs.Tally.{tally-none}
+use Rattle.planes.proofs.SmoothedLaws.{left-smoothed}
 use Rattle.frame_calls.specs.Skip.{filterOff, skipping, frameCall, BesidePass, BesideSteps, SkippedList}
 
 -- steps that leave every macroblock alone
@@ -37,8 +43,10 @@ module _ (W : Pass) (g : Grid) (config : FrameFilterConfig) (entries : ℕ → E
 
 module _ (W : Pass) where
   pub beside-pass : (a : Call W) → BesidePass W a
-  unfolding answer refusal count next planesAfter
+  unfolding answer refusal count next planesAfter part step stepSmoothed
   beside-pass a = record {
+    skipped-part = λ off n e. every-part (skipping W) .left-alone (frameCall W a) (λ x. ap (λ (b : Bool). cond b leave (W .plan (a .settings) x)) off) n e;
+    same-part = λ on. ap smoothedIf on;
     same-answer = refl;
     skipped = λ off. ap kept (steps-skipped W (a .grid) (a .settings) (W .entry (a .carried)) (a .start) (count W a) (a .lent) off) ∙ same (eqb (refusal W a) 0);
     not-skipped = λ on. ap kept (steps-not-skipped W (a .grid) (a .settings) (W .entry (a .carried)) (a .start) (count W a) (a .lent) on);
@@ -47,6 +55,16 @@ module _ (W : Pass) where
       -- what an accepted call leaves, or what was lent
       kept : Planes → Planes
       kept p = cond (eqb (refusal W a) 0) p (a .lent)
+
+      -- the part, where the header level turns the filter off or not
+      smoothedIf : Bool → Outcome ℕ
+      smoothedIf off =
+          cond (eqb (refusal W a) 0)
+          (gives (tally (filterMacroblock (a .grid) (plans off)) (macroblockSmoothed (a .grid) (plans off)) (a .start) (count W a) (a .lent)))
+          (refuses (refusal W a))
+        where
+          plans : Bool → ℕ → Plan
+          plans b m = cond b leave (W .plan (a .settings) (W .entry (a .carried) m))
 
       same : (b : Bool) → cond b (a .lent) (a .lent) ≡ a .lent
       same true = refl
@@ -59,8 +77,19 @@ module _ (W : Pass) where
     not-skipped = λ on k. steps-not-skipped W (pic .grid) (pic .settings) (pic .entries) 0 k p on;
   }
 
+  none-of : (pic : Picture) (p : Planes) → filterOff (pic .settings) ≡ true → (k : ℕ) → firstSmoothed (skipping W) pic k p ≡ 0
+  unfolding firstSmoothed stepSmoothed
+  none-of pic p off k =
+      tally-none (step (skipping W) (pic .grid) (pic .settings) (pic .entries)) (stepSmoothed (skipping W) (pic .grid) (pic .settings) (pic .entries))
+      (λ m q. left-smoothed (pic .grid) (λ i. skipping W .plan (pic .settings) (pic .entries i)) m q (ap (λ (b : Bool). cond b leave (W .plan (pic .settings) (pic .entries m))) off)) 0 k p
+
   pub skipped-list : (pic : Picture) (p : Planes) (list : List (Call (skipping W))) (h : LastLeft)
       → Calls (skipping W) pic (record { planes = p; start = 0 }) list h → filterOff (pic .settings) ≡ true → SkippedList W pic p list h
   skipped-list pic p list h calls off =
       let promise = demand-3 (skipping W) pic p list h calls in
-      record { planes = promise .planes ∙ beside-steps pic p .skipped off _; added = promise .added; start = promise .start }
+      record {
+        planes = promise .planes ∙ beside-steps pic p .skipped off _;
+        added = promise .added;
+        none-smoothed = parts-promised (skipping W) pic p list h calls .added ∙ none-of pic p off _;
+        start = promise .start;
+      }

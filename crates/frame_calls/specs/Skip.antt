@@ -10,6 +10,8 @@ use Rattle.planes.specs.Planes.{Planes}
 use Rattle.planes.specs.Macroblock.{leave}
 use Rattle.calls.specs.Pass.{Pass, Call, keyPass, interPass, answer, planesAfter}
 use Rattle.calls.specs.Calls.{Picture, LastLeft, counts, done, firstMacroblocks}
+use Rattle.calls.specs.Smoothed.{part, parts}
+use Rattle.arithmetic.specs.Outcome.{gives}
 
 -- the header level turns the filter off
 unfoldable pub filterOff : FrameFilterConfig → Bool
@@ -49,6 +51,9 @@ module _ (W : Pass) where
     pub skipped : filterOff (a .settings) ≡ true → planesAfter (skipping W) (frameCall W a) ≡ a .lent
     -- "and otherwise equals that pass"
     pub not-skipped : filterOff (a .settings) ≡ false → planesAfter (skipping W) (frameCall W a) ≡ planesAfter W a
+    -- nothing of a skipped frame is smoothed, and of any other what the pass smooths
+    pub skipped-part : filterOff (a .settings) ≡ true → (n : ℕ) → part (skipping W) (frameCall W a) ≡ gives n → n ≡ 0
+    pub same-part : filterOff (a .settings) ≡ false → part (skipping W) (frameCall W a) ≡ part W a
 
   -- Of a picture: what demand 3 calls the first k macroblocks, and so every final value.
   pub record BesideSteps (pic : Picture) (p : Planes) : Type 0 where
@@ -59,4 +64,5 @@ module _ (W : Pass) where
   pub record SkippedList (pic : Picture) (p : Planes) (list : List (Call (skipping W))) (h : LastLeft) : Type 0 where
     pub planes : h .planes ≡ p
     pub added : counts (skipping W) list ≡ done (skipping W) pic list
+    pub none-smoothed : parts (skipping W) list ≡ 0
     pub start : h .start ≡ done (skipping W) pic list

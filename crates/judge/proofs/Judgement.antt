@@ -6,23 +6,24 @@ use native.Mathlib.Omega.{arith}
 use lib.Dec.{ltb, eqb}
 use lib.ListN.{length}
 use borrow.Author.Tests.{ltb-false}
-use Rattle.arithmetic.specs.Outcome.{refuses}
-use Rattle.planes.specs.Steps.{steps}
+use Rattle.arithmetic.specs.Outcome.{gives, refuses}
+use Rattle.planes.specs.Steps.{steps, tally}
 use Rattle.planes.specs.Planes.{Planes, macroblocks}
 use Rattle.planes.specs.GridRefusals.{zeroGrid, tooLarge, badStrides, shortPlanes, afterGrid, shortBy}
 use Rattle.planes.proofs.GridLaws.{none}
 use Rattle.calls.specs.Pass.{Pass, Call, refusal, step, count, next, answer, planesAfter}
-use Rattle.calls.specs.Answers.{passRefusalNumber, passOutcome}
+use Rattle.calls.specs.Answers.{passRefusalNumber, passOutcome, partOutcome}
+use Rattle.calls.specs.Smoothed.{stepSmoothed, part}
 use Rattle.calls.specs.declared.answers.PassAnswer.the-variants.{Done, Refused}
 use Rattle.calls.specs.declared.answers.PassRefusal.{PassRefusal}
 use Rattle.calls.specs.declared.answers.PassRefusal.the-variants.{TooLarge, BadStrides, ShortPlane, WrongLength, BadEntry, StartBeyond}
-use Rattle.judge.specs.Batches.{Seen, idleBatch, acceptedBatch, batchOf}
+use Rattle.judge.specs.Batches.{Seen, idleBatch, acceptedBatch, withTotal, batchOf}
 use Rattle.judge.specs.declared.batch.Batch.{Batch}
 
 -- ---- the batch, by the tests
 
 module _ (s : Seen) where
-  pub batch-zero : zeroGrid (s .grid) ≡ true → batchOf s ≡ idleBatch (Done 0 0)
+  pub batch-zero : zeroGrid (s .grid) ≡ true → batchOf s ≡ idleBatch (Done 0 0 0)
   unfolding batchOf
   batch-zero e = rw e
 
@@ -81,8 +82,13 @@ pub record Sized (W : Pass) (a : Call W) : Type 0 where
   pub short : shortBy (a .grid) (length (a .lent .y)) (length (a .lent .u)) (length (a .lent .v)) ≡ false
   pub lengths : W .wrongLength (a .carried) (macroblocks (a .grid)) ≡ false
 
+-- what the steps of a call smooth, count of them from k on
+abbrev pub smoothedBy : (W : Pass) → Call W → (k count : ℕ) → ℕ
+smoothedBy W a k count = tally (step W (a .grid) (a .settings) (W .entry (a .carried))) (stepSmoothed W (a .grid) (a .settings) (W .entry (a .carried))) k count (a .lent)
+
 pub record Meets (W : Pass) (a : Call W) (p : Batch) : Type 0 where
-  pub answers : passOutcome (p .answer) ≡ answer W a
+  pub answers : (s : ℕ) → passOutcome (withTotal (p .answer) s) ≡ answer W a
+  pub counts : (s : ℕ) → s ≡ smoothedBy W a (p .from) (p .to - p .from) → partOutcome (withTotal (p .answer) s) ≡ part W a
   pub leaves : steps (step W (a .grid) (a .settings) (W .entry (a .carried))) (p .from) (p .to - p .from) (a .lent) ≡ planesAfter W a
   pub ordered : p .from ≤ p .to
   pub within : p .to ≤ macroblocks (a .grid)
@@ -93,23 +99,25 @@ module _ (W : Pass) (a : Call W) where
   turns k c = steps (step W (a .grid) (a .settings) (W .entry (a .carried))) k c (a .lent)
 
   refused : (p : PassRefusal) (k : ℕ) → passRefusalNumber p ≡ k → eqb k 0 ≡ false → refusal W a ≡ k → Meets W a (idleBatch (Refused p))
-  unfolding answer planesAfter steps passOutcome
+  unfolding answer planesAfter steps passOutcome partOutcome part
   refused p k e n r = record {
-    answers = ap refuses e ∙ rw (r, n);
+    answers = λ _. ap refuses e ∙ rw (r, n);
+    counts = λ _ _. ap refuses e ∙ rw (r, n);
     leaves = rw (r, n);
     ordered = omega arith;
     within = omega arith;
     sized = λ h. absurd (omega arith);
   }
 
-  zero-met : zeroGrid (a .grid) ≡ true → Meets W a (idleBatch (Done 0 0))
-  unfolding answer planesAfter refusal count next passOutcome steps
+  zero-met : zeroGrid (a .grid) ≡ true → Meets W a (idleBatch (Done 0 0 0))
+  unfolding answer planesAfter refusal count next passOutcome partOutcome part steps tally
   zero-met z =
       let e = none (a .grid) z in
       let i : min (a .allowance) (macroblocks (a .grid) - a .start) ≡ 0 = omega (arith, e) in
       let j : min (a .start + 0) (macroblocks (a .grid)) ≡ 0 = omega (arith, e) in
       record {
-        answers = rw (z, i, j);
+        answers = λ _. rw (z, i, j);
+        counts = λ s e. ap gives e ∙ rw (z, i);
         leaves = rw (z, i);
         ordered = omega arith;
         within = omega arith;
@@ -117,13 +125,14 @@ module _ (W : Pass) (a : Call W) where
       }
 
   accepted-met : refusal W a ≡ 0 → a .start ≤ macroblocks (a .grid) → Sized W a → Meets W a (acceptedBatch (macroblocks (a .grid)) (a .start) (a .allowance))
-  unfolding answer planesAfter count next acceptedBatch passOutcome
+  unfolding answer planesAfter count next acceptedBatch passOutcome partOutcome part
   accepted-met r h s =
       let c = min (a .allowance) (macroblocks (a .grid) - a .start) in
       let i : min (a .start + c) (macroblocks (a .grid)) ≡ a .start + c = omega arith in
       let j : a .start + c - a .start ≡ c = omega arith in
       record {
-        answers = rw (r, i);
+        answers = λ _. rw (r, i);
+        counts = λ s e. ap gives (e ∙ ap (smoothedBy W a (a .start)) j) ∙ rw r;
         leaves = rw r (ap (turns (a .start)) j);
         ordered = omega arith;
         within = omega arith;

@@ -1,4 +1,4 @@
--- What the judge of a pass sees of a call, and what it decides: the answer and the macroblocks to do. `proofs/Judgement.antt` shows that the answer is `answer` and that the macroblocks are those of `planesAfter`.
+-- What the judge of a pass sees of a call, and what it decides: the answer and the macroblocks to do. Nothing is smoothed yet, so that its answers have the total 0. `proofs/Judgement.antt` shows that the answer is `answer` and that the macroblocks are those of `planesAfter`.
 use mathlib.Core.Bool.{Bool, cond, not, _||_}
 use Prim.Native.Nat.{ℕ, _+_, _-_, min}
 use lib.Dec.{ltb, eqb}
@@ -43,11 +43,16 @@ idleBatch a = record { answer = a; from = 0; to = 0 }
 
 unfoldable pub acceptedBatch : (n start allowance : ℕ) → Batch
 acceptedBatch n start allowance =
-    record { answer = Done (min allowance (n - start)) (start + min allowance (n - start)); from = start; to = start + min allowance (n - start) }
+    record { answer = Done (min allowance (n - start)) (start + min allowance (n - start)) 0; from = start; to = start + min allowance (n - start) }
+
+-- an answer with its total, which a refusal has not
+abbrev pub withTotal : PassAnswer → (smoothed : ℕ) → PassAnswer
+withTotal (Done count next none) smoothed = Done count next smoothed
+withTotal (Refused r) smoothed = Refused r
 
 unfoldable pub batchOf : Seen → Batch
 batchOf s =
-    cond (zeroGrid (s .grid)) (idleBatch (Done 0 0))
+    cond (zeroGrid (s .grid)) (idleBatch (Done 0 0 0))
     (cond (tooLarge (s .grid)) (idleBatch (Refused TooLarge))
     (cond (badStrides (s .grid)) (idleBatch (Refused BadStrides))
     (cond (shortBy (s .grid) (s .yLength) (s .uLength) (s .vLength)) (idleBatch (Refused ShortPlane))

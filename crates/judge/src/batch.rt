@@ -10,7 +10,7 @@ ghost use Rattle.planes.specs.Layout.{gridOf};
 ghost use Rattle.planes.specs.Planes.{macroblocks};
 ghost use Rattle.judge.specs.Batches.{lengthsWrong, idleBatch, acceptedBatch, seen, batchOf};
 
-// The answer, and the macroblocks to do: `from` up to `to`, none where these are equal.
+// The answer, and the macroblocks to do: `from` up to `to`, none where these are equal. Nothing is smoothed yet.
 pub struct Batch {
     pub answer: PassAnswer,
     pub from: usize,
@@ -51,6 +51,7 @@ fn accepted(n: usize, start: usize, allowance: usize) -> Batch
     let done = PassAnswer::Done {
         count: count,
         next: next,
+        smoothed: 0,
     };
     Batch {
         answer: done,
@@ -75,7 +76,11 @@ pub fn judge_call(
         (lengthsWrong alike entries (macroblocks (gridOf layout))) bad start allowance) ⌝ }
 {
     if zero_grid(layout) {
-        return idle(PassAnswer::Done { count: 0, next: 0 });
+        return idle(PassAnswer::Done {
+            count: 0,
+            next: 0,
+            smoothed: 0,
+        });
     }
     let grid = grid_refusal(y_len, u_len, v_len, layout);
     if grid == 1 {

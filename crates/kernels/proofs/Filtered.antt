@@ -4,9 +4,10 @@ use mathlib.Core.Path.{_≡_, refl, sym, ap, subst, _∙_}
 use mathlib.Core.Bool.{Bool, true, false, cond}
 use mathlib.Core.List.{List}
 use Prim.Native.Nat.{ℕ, _+_}
+use native.Mathlib.Nat.{add-zero}
 use lib.ListN.{getD}
 use Rattle.kernels.specs.Kernels.{segmentYes, simpleYes}
-use Rattle.kernels.specs.Segment.{segment}
+use Rattle.kernels.specs.Segment.{half, taps, gather, segment, passes, passesAt}
 use Rattle.kernels.specs.Private.Windows.{neighboursNear, softened, widened, windowYes, normal, Filtered}
 use Rattle.kernels.proofs.Apart.{yes-in-turn}
 use Rattle.kernels.proofs.Windows.{subblock-window, mb-window}
@@ -48,6 +49,12 @@ module _ (l : List ℕ) (b : ℕ) where
   window : (wide : Bool) (t i e : ℕ) → segment (normal wide t i e) (λ j. b + j) l ≡ cond (nearAt i) (cond (edgeAt e) (smoothed wide t) l) l
   window true t i e = mb-window l b t i e
   window false t i e = subblock-window l b t i e
+
+  -- the test that the definition counts by
+  pub window-passes : (wide : Bool) (t i e : ℕ) → windowYes i e l b ≡ passesAt (normal wide t i e) (λ j. b + j) l
+  unfolding windowYes passesAt passes taps half gather
+  window-passes true t i e = ap (λ (k : ℕ). segmentYes i e (getD l k 0) (tap 1) (tap 2) (tap 3) (tap 4) (tap 5) (tap 6) (tap 7)) (sym (add-zero b))
+  window-passes false t i e = ap (λ (k : ℕ). segmentYes i e (getD l k 0) (tap 1) (tap 2) (tap 3) (tap 4) (tap 5) (tap 6) (tap 7)) (sym (add-zero b))
 
   module _ (wide : Bool) (t i e : ℕ) where
     -- the neighbours are far apart: nothing passes, and nothing changes

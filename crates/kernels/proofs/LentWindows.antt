@@ -10,9 +10,10 @@ use borrow.Author.Tests.{le-leb}
 use lib.ListN.{length, getD, set, take, drop, length-drop}
 use lib.Seq.{take-all, sets, sets-eq, take-suc, drop-cons, length-take-le, getD-take, getD-drop, take-set-le, take-set-lt, drop-set-add, drop-set-lt}
 use borrow.Rule.Slice.PartMut.{midOf, putMid, put-same, mid-len}
-use Rattle.kernels.specs.Segment.{Kernel, taps, smooth, gather, scatter, segment, fitsAt, windowed}
+use Rattle.arithmetic.specs.Outcome.{Outcome, gives, refuses}
+use Rattle.kernels.specs.Segment.{Kernel, taps, smooth, gather, scatter, segment, passesAt, fitsAt, windowed, windowAnswer}
 use Rattle.kernels.proofs.KernelLaws.{half-least, keeps}
-use Rattle.kernels.proofs.SegmentLaws.{stored, segment-is, stored-same, length-stored}
+use Rattle.kernels.proofs.SegmentLaws.{stored, segment-is, stored-same, passes-same, length-stored}
 
 -- ---- a part that is lent and comes back
 
@@ -63,6 +64,17 @@ window-lent k a e xs ys ee ey =
 pub windowed-fits : (k : Kernel) (l : List ℕ) (base : ℕ) → base + taps k ≤ length l → windowed k l base ≡ segment k (λ t. base + t) l
 unfolding windowed fitsAt
 windowed-fits k l base h = ap (λ (b : Bool). cond b (segment k (λ t. base + t) l) l) (le-leb (base + taps k) (length l) h)
+
+pub answer-fits : (k : Kernel) (l : List ℕ) (base : ℕ) → base + taps k ≤ length l → windowAnswer k l base ≡ gives (passesAt k (λ t. base + t) l)
+unfolding windowAnswer fitsAt
+answer-fits k l base h = ap (λ (b : Bool). cond b (gives (passesAt k (λ t. base + t) l)) (refuses 4)) (le-leb (base + taps k) (length l) h)
+
+-- the test on a window lent from mid-row is that on the whole
+pub answer-lent : (k : Kernel) (a e : ℕ) (xs : List ℕ) → e ≡ a + taps k → e ≤ length xs → windowAnswer k (midOf a (e - a) xs) 0 ≡ gives (passesAt k (λ t. a + t) xs)
+answer-lent k a e xs ee fit =
+    answer-fits k (midOf a (e - a) xs) 0 (omega (arith, mid-len a e xs fit))
+    ∙ ap gives (passes-same k (λ t. 0 + t) (λ t. a + t) (midOf a (e - a) xs) xs
+    (λ t h. getD-take (e - a) (drop a xs) (0 + t) 0 (omega arith) ∙ getD-drop a xs (0 + t) 0 ∙ ap (λ (i : ℕ). getD xs (a + i) 0) (zero-add t)))
 
 -- the same, from what a kernel's contract says of the part
 pub windowed-lent :

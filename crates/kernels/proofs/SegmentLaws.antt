@@ -1,13 +1,14 @@
 -- A segment: it reads its taps alone, writes its inner taps alone, and keeps the length.
 use mathlib.Core.Path.{_≡_, refl, sym, ap, ap₂, _∙_, subst}
 use mathlib.Core.Logic.{_≢_, _⊎_, inl, inr}
+use mathlib.Core.Bool.{Bool, true, false}
 use mathlib.Core.List.{List, [], _∷_}
 use Prim.Native.Nat.{ℕ, zero, suc, _+_, _-_, _≤_, _<_}
 use native.Mathlib.Nat.{le-refl, add-zero, add-suc, suc-add, suc-inj, suc-ne-zero, le-of-suc-le-suc, not-suc-le-zero}
 use native.Mathlib.Omega.{arith}
 use lib.ListN.{length, getD, set, take, drop, length-set, length-drop}
 use lib.Seq.{getD-set-same, getD-set-other, length-take-le, getD-take, getD-drop}
-use Rattle.kernels.specs.Segment.{Kernel, taps, smooth, gather, scatter, segment}
+use Rattle.kernels.specs.Segment.{Kernel, taps, smooth, gather, scatter, segment, passes, passesAt, mark}
 use Rattle.kernels.proofs.KernelLaws.{keeps}
 
 -- ---- gathering
@@ -68,6 +69,17 @@ pub stored-same :
     (k : Kernel) (at at′ : ℕ → ℕ) (l l′ : List ℕ) → ((t : ℕ) → t < taps k → getD l (at t) 0 ≡ getD l′ (at′ t) 0) → stored k at l ≡ stored k at′ l′
 unfolding stored
 stored-same k at at′ l l′ h = rw (gather-same at at′ 0 (taps k) l l′ (λ t _ b. h t (omega arith)))
+
+-- and so does its test
+pub passes-same :
+    (k : Kernel) (at at′ : ℕ → ℕ) (l l′ : List ℕ) → ((t : ℕ) → t < taps k → getD l (at t) 0 ≡ getD l′ (at′ t) 0) → passesAt k at l ≡ passesAt k at′ l′
+unfolding passesAt
+passes-same k at at′ l l′ h = ap (passes k) (gather-same at at′ 0 (taps k) l l′ (λ t _ b. h t (omega arith)))
+
+pub mark-most : (b : Bool) → mark b ≤ 1
+unfolding mark
+mark-most true = omega arith
+mark-most false = omega arith
 
 pub length-stored : (k : Kernel) (at : ℕ → ℕ) (l : List ℕ) → length (stored k at l) ≡ taps k - 2
 unfolding stored

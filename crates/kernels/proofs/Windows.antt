@@ -13,7 +13,7 @@ use lib.IntN.{_+ℤ_, _-ℤ_}
 use Rattle.arithmetic.specs.Numbers.{u2s, s2u}
 use Rattle.kernels.specs.Kernels as K
 use Rattle.kernels.specs.Kernels.{segmentYes, segmentHev, adjustedP0, adjustedQ0, simpleYes, outerStep, part, wideValue}
-use Rattle.kernels.specs.Segment.{commonAdjust, simpleSegment, subblockFilter, mbFilter, half, taps, smooth, gather, scatter, segment}
+use Rattle.kernels.specs.Segment.{commonAdjust, simpleSegment, subblockFilter, mbFilter, half, taps, smooth, gather, scatter, segment, passes, passesAt}
 use Rattle.kernels.specs.Private.Windows.{neighboursNear, adjustedAt, softenedFour, softened, widenedSix, widened}
 use Rattle.kernels.proofs.Apart.{yes-in-turn, hev-low}
 
@@ -71,6 +71,10 @@ module _ (l : List ℕ) (b : ℕ) where
     where
       kept : set (set l (b + 1) (tap l b 1)) (b + 2) (tap l b 2) ≡ l
       kept = simp set-getD
+
+  pub simple-passes : (e : ℕ) → passesAt (simpleSegment e) (λ t. b + t) l ≡ simpleYes e (getD l b 0) (tap l b 1) (tap l b 2) (tap l b 3)
+  unfolding passesAt passes taps half gather
+  simple-passes e = λ i. simpleYes e (first i) (tap l b 1) (tap l b 2) (tap l b 3)
 
   -- ---- windows of eight
 

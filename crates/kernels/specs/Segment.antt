@@ -1,6 +1,6 @@
 -- A segment: the samples across an edge at one position of it (RFC 6386, section 15.1), read from a list at the indices that `at` names, and the inner ones stored back.
 -- A window of a slice, a position of a vertical edge and one of a horizontal edge differ in `at` alone.
-use mathlib.Core.Bool.{Bool, cond}
+use mathlib.Core.Bool.{Bool, true, false, cond}
 use mathlib.Core.List.{List, [], _∷_}
 use Prim.Native.Nat.{ℕ, zero, suc, _+_, _-_}
 use lib.Dec.{leb}
@@ -28,10 +28,10 @@ half (mbFilter threshold interior edge) = 4
 unfoldable pub taps : Kernel → ℕ
 taps k = half k + half k
 
-abbrev four : (ℕ → ℕ → ℕ → ℕ → List ℕ) → List ℕ → List ℕ
+abbrev four : {X : Type 0} → (ℕ → ℕ → ℕ → ℕ → X) → List ℕ → X
 four f ts = f (getD ts 0 0) (getD ts 1 0) (getD ts 2 0) (getD ts 3 0)
 
-abbrev eight : (ℕ → ℕ → ℕ → ℕ → ℕ → ℕ → ℕ → ℕ → List ℕ) → List ℕ → List ℕ
+abbrev eight : {X : Type 0} → (ℕ → ℕ → ℕ → ℕ → ℕ → ℕ → ℕ → ℕ → X) → List ℕ → X
 eight f ts = f (getD ts 0 0) (getD ts 1 0) (getD ts 2 0) (getD ts 3 0) (getD ts 4 0) (getD ts 5 0) (getD ts 6 0) (getD ts 7 0)
 
 -- the samples of a segment after the kernel
@@ -40,6 +40,14 @@ smooth (commonAdjust outer) = four (K.commonAdjust outer)
 smooth (simpleSegment edge) = four (K.simpleSegment edge)
 smooth (subblockFilter threshold interior edge) = eight (K.subblockFilter threshold interior edge)
 smooth (mbFilter threshold interior edge) = eight (K.mbFilter threshold interior edge)
+
+-- Whether the kernel's test passes on the samples of a segment: the segment then counts as smoothed, even if its numbers come out equal.
+-- common_adjust has no test.
+unfoldable pub passes : Kernel → List ℕ → Bool
+passes (commonAdjust outer) = λ _. false
+passes (simpleSegment edge) = four (K.simpleYes edge)
+passes (subblockFilter threshold interior edge) = eight (K.segmentYes interior edge)
+passes (mbFilter threshold interior edge) = eight (K.segmentYes interior edge)
 
 -- n samples, from the one that `at t` names on
 unfoldable pub gather : (at : ℕ → ℕ) (t n : ℕ) → List ℕ → List ℕ
@@ -55,6 +63,15 @@ scatter at t (v ∷ vs) l = scatter at (suc t) vs (set l (at t) v)
 unfoldable pub segment : Kernel → (at : ℕ → ℕ) → List ℕ → List ℕ
 segment k at l = scatter at 1 (take (taps k - 2) (drop 1 (smooth k (gather at 0 (taps k) l)))) l
 
+-- whether its test passes on the samples as they stand there
+unfoldable pub passesAt : Kernel → (at : ℕ → ℕ) → List ℕ → Bool
+passesAt k at l = passes k (gather at 0 (taps k) l)
+
+-- what a segment adds to a count
+unfoldable pub mark : Bool → ℕ
+mark true = 1
+mark false = 0
+
 -- ---- a window of a slice
 
 -- the window fits at base: 4 is refused on this alone
@@ -65,9 +82,9 @@ fitsAt k l base = leb (base + taps k) (length l)
 unfoldable pub windowed : Kernel → List ℕ → (base : ℕ) → List ℕ
 windowed k l base = cond (fitsAt k l base) (segment k (λ t. base + t) l) l
 
--- what the call answers
-unfoldable pub windowAnswer : Kernel → List ℕ → (base : ℕ) → Outcome (Unit {0})
-windowAnswer k l base = cond (fitsAt k l base) (gives tt) (refuses 4)
+-- what the call answers: whether the test passed on the window as it was lent
+unfoldable pub windowAnswer : Kernel → List ℕ → (base : ℕ) → Outcome Bool
+windowAnswer k l base = cond (fitsAt k l base) (gives (passesAt k (λ t. base + t) l)) (refuses 4)
 
 unfoldable pub adjustAnswer : (outer : Bool) → List ℕ → (base : ℕ) → Outcome ℤ
 adjustAnswer outer l base =

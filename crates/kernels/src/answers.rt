@@ -6,8 +6,8 @@ pub enum AdjustAnswer {
     NoWindowToAdjust,
 }
 
-// Done, or refusal 4.
+// Done, and whether the kernel's test passed; or refusal 4.
 pub enum KernelAnswer {
-    Done,
+    Done(bool),
     NoWindow,
 }

@@ -70,8 +70,7 @@ pub fn simple_segment(edge_limit: u8, seg: &mut [u8], base: usize) -> KernelAnsw
     ensures { λ _. ⌜ now (seg .exit) ≡ windowed (simpleSegment «edge_limit») (now (seg .entry)) base ⌝ }
 {
     if has_window(seg.len(), 4, base) {
-        simple_segment_passed(edge_limit, seg, base);
-        KernelAnswer::Done
+        KernelAnswer::Done(simple_segment_passed(edge_limit, seg, base))
     } else {
         KernelAnswer::NoWindow
     }
@@ -88,8 +87,13 @@ pub fn subblock_filter(
     ensures { λ _. ⌜ now (seg .exit) ≡ windowed (subblockFilter «hev_threshold» «interior_limit» «edge_limit») (now (seg .entry)) base ⌝ }
 {
     if has_window(seg.len(), 8, base) {
-        subblock_filter_passed(hev_threshold, interior_limit, edge_limit, seg, base);
-        KernelAnswer::Done
+        KernelAnswer::Done(subblock_filter_passed(
+            hev_threshold,
+            interior_limit,
+            edge_limit,
+            seg,
+            base,
+        ))
     } else {
         KernelAnswer::NoWindow
     }
@@ -106,8 +110,7 @@ pub fn mb_filter(
     ensures { λ _. ⌜ now (seg .exit) ≡ windowed (mbFilter «hev_threshold» «interior_limit» «edge_limit») (now (seg .entry)) base ⌝ }
 {
     if has_window(seg.len(), 8, base) {
-        mb_filter_passed(hev_threshold, interior_limit, edge_limit, seg, base);
-        KernelAnswer::Done
+        KernelAnswer::Done(mb_filter_passed(hev_threshold, interior_limit, edge_limit, seg, base))
     } else {
         KernelAnswer::NoWindow
     }

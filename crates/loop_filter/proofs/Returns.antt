@@ -5,7 +5,10 @@ use Rattle.arithmetic.specs.Outcome.{Outcome, numberOf}
 use Rattle.planes.specs.Planes.{Planes}
 use Rattle.levels.specs.declared.config.FrameFilterConfig.{FrameFilterConfig}
 use Rattle.calls.specs.Pass.{Pass, Call, Progress, answer, planesAfter}
-use Rattle.calls.specs.Answers.{Passed, passOutcome}
+use mathlib.Core.Bool.{Bool}
+use Rattle.kernels.specs.Segment.{mark}
+use Rattle.calls.specs.Smoothed.{part}
+use Rattle.calls.specs.Answers.{Passed, passOutcome, partOutcome}
 use Rattle.calls.specs.FinalRows.{Rows}
 use Rattle.calls.specs.declared.answers.PassAnswer.{PassAnswer}
 use Rattle.search.specs.Search.{SearchCall, Choice, LevelChoice, searchAnswer, levelOnly, scratchAfter, Searched, LevelSearched}
@@ -13,6 +16,7 @@ use Rattle.stills.specs.FullSearch.{FullChoice, fullAnswer, scratchAfterFull, F
 use Rattle.loop_filter.specs.Returned.{
   outOf,
   Returned,
+  PassedReturned,
   ProgressReturned,
   PassReturned,
   RowsReturned,
@@ -27,11 +31,15 @@ use Rattle.loop_filter.specs.Returned.{
 pub returned : {X : Type 0} {o o′ : Outcome X} {n : ℕ} {a b : X} → o ≡ o′ → Returned o n a b → Returned o′ n a b
 returned {X} {a = a} e r = record { number = r .number ∙ ap numberOf e; out = r .out ∙ ap (λ (o : Outcome X). outOf (λ x. x) o a) e }
 
-pub progress : {o o′ : Outcome Progress} {n a b c d : ℕ} → o ≡ o′ → ProgressReturned o n a b c d → ProgressReturned o′ n a b c d
-progress {a = a} {b = b} e r = record {
-  number = r .number ∙ ap numberOf e;
-  count = r .count ∙ ap (λ (o : Outcome Progress). outOf (λ (x : Progress). x .count) o a) e;
-  next = r .next ∙ ap (λ (o : Outcome Progress). outOf (λ (x : Progress). x .next) o b) e;
+pub kernel-passed : {o o′ : Outcome Bool} {n a b : ℕ} → o ≡ o′ → PassedReturned o n a b → PassedReturned o′ n a b
+kernel-passed {a = a} e r = record { number = r .number ∙ ap numberOf e; out = r .out ∙ ap (λ (o : Outcome Bool). outOf mark o a) e }
+
+pub progress : {o o′ : Outcome Progress} {s s′ : Outcome ℕ} {n a b c d e f : ℕ} → o ≡ o′ → s ≡ s′ → ProgressReturned o s n a b c d e f → ProgressReturned o′ s′ n a b c d e f
+progress {a = a} {b = b} {c = c} q t r = record {
+  number = r .number ∙ ap numberOf q;
+  count = r .count ∙ ap (λ (o : Outcome Progress). outOf (λ (x : Progress). x .count) o a) q;
+  next = r .next ∙ ap (λ (o : Outcome Progress). outOf (λ (x : Progress). x .next) o b) q;
+  smoothed = r .smoothed ∙ ap (λ (o : Outcome ℕ). outOf (λ x. x) o c) t;
 }
 
 pub rows : {o o′ : Outcome Rows} {n a b c d : ℕ} → o ≡ o′ → RowsReturned o n a b c d → RowsReturned o′ n a b c d
@@ -42,10 +50,10 @@ rows {a = a} {b = b} e r = record {
 }
 
 -- a pass whose settings crossed as numbers
-pub passed : (W : Pass) (call : FrameFilterConfig → Call W) {q q′ : FrameFilterConfig} {r : PassAnswer} {after : Planes} {n a b c d : ℕ}
-    → q ≡ q′ → Passed W (call q) r after → ProgressReturned (passOutcome r) n a b c d → PassReturned W (call q′) n after a b c d
+pub passed : (W : Pass) (call : FrameFilterConfig → Call W) {q q′ : FrameFilterConfig} {r : PassAnswer} {after : Planes} {n a b c d e f : ℕ}
+    → q ≡ q′ → Passed W (call q) r after → ProgressReturned (passOutcome r) (partOutcome r) n a b c d e f → PassReturned W (call q′) n after a b c d e f
 passed W call same p t = record {
-  progress = progress (p .answered ∙ ap (λ (q : FrameFilterConfig). answer W (call q)) same) t;
+  progress = progress (p .answered ∙ ap (λ (q : FrameFilterConfig). answer W (call q)) same) (p .counted ∙ ap (λ (q : FrameFilterConfig). part W (call q)) same) t;
   planes = p .filtered ∙ ap (λ (q : FrameFilterConfig). planesAfter W (call q)) same;
 }
 

@@ -1,9 +1,12 @@
 -- What a C function returns, r: 0, or the number of the refusal; and what its out-parameters hold then: what the call gives, or what was there before where it refuses.
 use mathlib.Core.Path.{_≡_}
+use mathlib.Core.Bool.{Bool}
 use Prim.Native.Nat.{ℕ}
 use Rattle.arithmetic.specs.Outcome.{Outcome, gives, refuses, numberOf}
 use Rattle.planes.specs.Planes.{Planes}
+use Rattle.kernels.specs.Segment.{mark}
 use Rattle.calls.specs.Pass.{Pass, Call, Progress, answer, planesAfter}
+use Rattle.calls.specs.Smoothed.{part}
 use Rattle.calls.specs.FinalRows.{Rows}
 use Rattle.search.specs.Search.{SearchCall, Choice, LevelChoice, searchAnswer, levelOnly, scratchAfter}
 use Rattle.stills.specs.FullSearch.{FullChoice, fullAnswer, scratchAfterFull}
@@ -18,15 +21,21 @@ pub record Returned {X : Type 0} (o : Outcome X) (r : ℕ) (before after : X) : 
   pub number : r ≡ numberOf o
   pub out : after ≡ outOf (λ x. x) o before
 
--- a pass's answer
-pub record ProgressReturned (o : Outcome Progress) (r count₀ next₀ count₁ next₁ : ℕ) : Type 0 where
+-- a kernel that has a test: 1 where it passed, else 0
+pub record PassedReturned (o : Outcome Bool) (r before after : ℕ) : Type 0 where
+  pub number : r ≡ numberOf o
+  pub out : after ≡ outOf mark o before
+
+-- a pass's answer, and its part
+pub record ProgressReturned (o : Outcome Progress) (s : Outcome ℕ) (r count₀ next₀ smoothed₀ count₁ next₁ smoothed₁ : ℕ) : Type 0 where
   pub number : r ≡ numberOf o
   pub count : count₁ ≡ outOf (λ (d : Progress). d .count) o count₀
   pub next : next₁ ≡ outOf (λ (d : Progress). d .next) o next₀
+  pub smoothed : smoothed₁ ≡ outOf (λ n. n) s smoothed₀
 
 -- a call of a pass
-pub record PassReturned (W : Pass) (a : Call W) (r : ℕ) (after : Planes) (count₀ next₀ count₁ next₁ : ℕ) : Type 0 where
-  pub progress : ProgressReturned (answer W a) r count₀ next₀ count₁ next₁
+pub record PassReturned (W : Pass) (a : Call W) (r : ℕ) (after : Planes) (count₀ next₀ smoothed₀ count₁ next₁ smoothed₁ : ℕ) : Type 0 where
+  pub progress : ProgressReturned (answer W a) (part W a) r count₀ next₀ smoothed₀ count₁ next₁ smoothed₁
   pub planes : after ≡ planesAfter W a
 
 -- the rows that are final

@@ -5,7 +5,7 @@ use calls::answers::pass_refusal_number;
 use calls::final_rows::FinalRowsAnswer;
 use planes::layout::PlaneLayout;
 ghost use Rattle.planes.specs.Layout.{gridOf, planesOf};
-ghost use Rattle.calls.specs.Answers.{passOutcome};
+ghost use Rattle.calls.specs.Answers.{passOutcome, partOutcome};
 ghost use Rattle.calls.specs.FinalRows.{finalRows};
 ghost use Rattle.calls.specs.Pass.{keyPass, interPass};
 ghost use Rattle.calls.specs.PassCalls.{keyCall, interCall, keyLists, interLists};
@@ -13,21 +13,27 @@ ghost use Rattle.frame_calls.specs.Skip.{keyFrame, interFrame, frameCall};
 ghost use Rattle.loop_filter.specs.Returned.{ProgressReturned, PassReturned, RowsReturned};
 ghost use Rattle.loop_filter.specs.Settings.{settingsOf, layoutOf};
 
-// Returns 0 and puts the count and the next start, or returns the number of the refusal.
-fn put_progress(answer: PassAnswer, count: &mut usize, next: &mut usize) -> u8
-    ensures { λ r. ⌜ ProgressReturned (passOutcome answer) r (now (count .entry)) (now (next .entry)) (now (count .exit)) (now (next .exit)) ⌝ }
+// Returns 0 and puts the count, the next start and the positions smoothed, or returns the number of the refusal.
+fn put_progress(answer: PassAnswer, count: &mut usize, next: &mut usize, smoothed: &mut usize) -> u8
+    ensures { λ r. ⌜ ProgressReturned (passOutcome answer) (partOutcome answer) r
+        (now (count .entry)) (now (next .entry)) (now (smoothed .entry)) (now (count .exit)) (now (next .exit)) (now (smoothed .exit)) ⌝ }
 {
     match answer {
-        PassAnswer::Done { count: c, next: n } => {
+        PassAnswer::Done {
+            count: c,
+            next: n,
+            smoothed: s,
+        } => {
             *count = c;
             *next = n;
+            *smoothed = s;
             0
         }
         PassAnswer::Refused(refusal) => pass_refusal_number(refusal),
     }
 }
 
-// Count and next start go through `count` and `next`, which a refusal leaves alone.
+// Count, next start and positions smoothed go through `count`, `next` and `smoothed`, which a refusal leaves alone.
 #[no_mangle]
 pub extern "C" fn vp8lf_filter_frame(
     y: &mut [u8],
@@ -63,6 +69,7 @@ pub extern "C" fn vp8lf_filter_frame(
     allowance: usize,
     count: &mut usize,
     next: &mut usize,
+    smoothed: &mut usize,
 ) -> u8
     ensures { λ r. ⌜ PassReturned keyPass
         (keyCall (planesOf (now (y .entry)) (now (u .entry)) (now (v .entry))) (layoutOf «mb_cols» «mb_rows» «y_stride» «uv_stride»)
@@ -72,7 +79,7 @@ pub extern "C" fn vp8lf_filter_frame(
         «ref_delta_last» «ref_delta_golden» «ref_delta_altref» «zero_mv_mode_delta» «other_mv_mode_delta» «split_mv_mode_delta»)
         start allowance)
         r (planesOf (now (y .exit)) (now (u .exit)) (now (v .exit)))
-        (now (count .entry)) (now (next .entry)) (now (count .exit)) (now (next .exit)) ⌝ }
+        (now (count .entry)) (now (next .entry)) (now (smoothed .entry)) (now (count .exit)) (now (next .exit)) (now (smoothed .exit)) ⌝ }
 {
     let config = settings(
         simple,
@@ -113,10 +120,10 @@ pub extern "C" fn vp8lf_filter_frame(
         start,
         allowance,
     );
-    put_progress(answer, count, next)
+    put_progress(answer, count, next, smoothed)
 }
 
-// Count and next start go through `count` and `next`, which a refusal leaves alone.
+// Count, next start and positions smoothed go through `count`, `next` and `smoothed`, which a refusal leaves alone.
 #[no_mangle]
 pub extern "C" fn vp8lf_filter_inter_frame(
     y: &mut [u8],
@@ -154,6 +161,7 @@ pub extern "C" fn vp8lf_filter_inter_frame(
     allowance: usize,
     count: &mut usize,
     next: &mut usize,
+    smoothed: &mut usize,
 ) -> u8
     ensures { λ r. ⌜ PassReturned interPass
         (interCall (planesOf (now (y .entry)) (now (u .entry)) (now (v .entry))) (layoutOf «mb_cols» «mb_rows» «y_stride» «uv_stride»)
@@ -163,7 +171,7 @@ pub extern "C" fn vp8lf_filter_inter_frame(
         «ref_delta_last» «ref_delta_golden» «ref_delta_altref» «zero_mv_mode_delta» «other_mv_mode_delta» «split_mv_mode_delta»)
         start allowance)
         r (planesOf (now (y .exit)) (now (u .exit)) (now (v .exit)))
-        (now (count .entry)) (now (next .entry)) (now (count .exit)) (now (next .exit)) ⌝ }
+        (now (count .entry)) (now (next .entry)) (now (smoothed .entry)) (now (count .exit)) (now (next .exit)) (now (smoothed .exit)) ⌝ }
 {
     let config = settings(
         simple,
@@ -206,10 +214,10 @@ pub extern "C" fn vp8lf_filter_inter_frame(
         start,
         allowance,
     );
-    put_progress(answer, count, next)
+    put_progress(answer, count, next, smoothed)
 }
 
-// The key pass, turned off by header level 0: the planes stay, and the macroblocks count as done. A refusal leaves `count` and `next` alone.
+// The key pass, turned off by header level 0: the planes stay, and the macroblocks count as done. A refusal leaves `count`, `next` and `smoothed` alone.
 #[no_mangle]
 pub extern "C" fn vp8lf_loop_filter_frame(
     y: &mut [u8],
@@ -245,6 +253,7 @@ pub extern "C" fn vp8lf_loop_filter_frame(
     allowance: usize,
     count: &mut usize,
     next: &mut usize,
+    smoothed: &mut usize,
 ) -> u8
     ensures { λ r. ⌜ PassReturned keyFrame
         (frameCall keyPass (keyCall (planesOf (now (y .entry)) (now (u .entry)) (now (v .entry))) (layoutOf «mb_cols» «mb_rows» «y_stride» «uv_stride»)
@@ -254,7 +263,7 @@ pub extern "C" fn vp8lf_loop_filter_frame(
         «ref_delta_last» «ref_delta_golden» «ref_delta_altref» «zero_mv_mode_delta» «other_mv_mode_delta» «split_mv_mode_delta»)
         start allowance))
         r (planesOf (now (y .exit)) (now (u .exit)) (now (v .exit)))
-        (now (count .entry)) (now (next .entry)) (now (count .exit)) (now (next .exit)) ⌝ }
+        (now (count .entry)) (now (next .entry)) (now (smoothed .entry)) (now (count .exit)) (now (next .exit)) (now (smoothed .exit)) ⌝ }
 {
     let config = settings(
         simple,
@@ -295,10 +304,10 @@ pub extern "C" fn vp8lf_loop_filter_frame(
         start,
         allowance,
     );
-    put_progress(answer, count, next)
+    put_progress(answer, count, next, smoothed)
 }
 
-// The inter pass, turned off by header level 0: the planes stay, and the macroblocks count as done. A refusal leaves `count` and `next` alone.
+// The inter pass, turned off by header level 0: the planes stay, and the macroblocks count as done. A refusal leaves `count`, `next` and `smoothed` alone.
 #[no_mangle]
 pub extern "C" fn vp8lf_loop_filter_inter_frame(
     y: &mut [u8],
@@ -336,6 +345,7 @@ pub extern "C" fn vp8lf_loop_filter_inter_frame(
     allowance: usize,
     count: &mut usize,
     next: &mut usize,
+    smoothed: &mut usize,
 ) -> u8
     ensures { λ r. ⌜ PassReturned interFrame
         (frameCall interPass (interCall (planesOf (now (y .entry)) (now (u .entry)) (now (v .entry))) (layoutOf «mb_cols» «mb_rows» «y_stride» «uv_stride»)
@@ -345,7 +355,7 @@ pub extern "C" fn vp8lf_loop_filter_inter_frame(
         «ref_delta_last» «ref_delta_golden» «ref_delta_altref» «zero_mv_mode_delta» «other_mv_mode_delta» «split_mv_mode_delta»)
         start allowance))
         r (planesOf (now (y .exit)) (now (u .exit)) (now (v .exit)))
-        (now (count .entry)) (now (next .entry)) (now (count .exit)) (now (next .exit)) ⌝ }
+        (now (count .entry)) (now (next .entry)) (now (smoothed .entry)) (now (count .exit)) (now (next .exit)) (now (smoothed .exit)) ⌝ }
 {
     let config = settings(
         simple,
@@ -388,7 +398,7 @@ pub extern "C" fn vp8lf_loop_filter_inter_frame(
         start,
         allowance,
     );
-    put_progress(answer, count, next)
+    put_progress(answer, count, next, smoothed)
 }
 
 // The rows go through `luma` and `chroma`, which a refusal leaves alone.

@@ -1,18 +1,27 @@
 // C functions: the kernels. Each returns 0 or document 01's number of the refusal; a refusal writes nothing.
+// Whether a kernel's test passed goes through `passed`: 1 if it did, else 0.
 use kernels::answers::AdjustAnswer;
 use kernels::answers::KernelAnswer;
 ghost use mathlib.Core.Path.{_≡_};
-ghost use Rattle.arithmetic.specs.Outcome.{numberOf};
 ghost use Rattle.kernels.specs.Answers.{kernelOutcome};
-ghost use Rattle.kernels.specs.Segment.{commonAdjust, simpleSegment, subblockFilter, mbFilter, windowed, windowAnswer, adjustAnswer};
-ghost use Rattle.loop_filter.specs.Returned.{Returned};
+ghost use Rattle.kernels.specs.Segment.{commonAdjust, simpleSegment, subblockFilter, mbFilter, mark, windowed, windowAnswer, adjustAnswer};
+ghost use Rattle.loop_filter.specs.Returned.{Returned, PassedReturned};
 
-// 0 for done, or the number of the refusal.
-fn number(answer: KernelAnswer) -> u8
-    ensures { λ r. ⌜ r ≡ numberOf (kernelOutcome answer) ⌝ }
+fn one_if(yes: bool) -> u8
+    ensures { λ r. ⌜ r ≡ mark yes ⌝ }
+{
+    if yes { 1 } else { 0 }
+}
+
+// Returns 0 and puts 1 where the test passed and 0 where it did not, or returns the number of the refusal.
+fn put_passed(answer: KernelAnswer, passed: &mut u8) -> u8
+    ensures { λ r. ⌜ PassedReturned (kernelOutcome answer) r (now (passed .entry)) (now (passed .exit)) ⌝ }
 {
     match answer {
-        KernelAnswer::Done => 0,
+        KernelAnswer::Done(yes) => {
+            *passed = one_if(yes);
+            0
+        }
         KernelAnswer::NoWindow => 4,
     }
 }
@@ -38,11 +47,17 @@ pub extern "C" fn vp8lf_common_adjust(
 }
 
 #[no_mangle]
-pub extern "C" fn vp8lf_simple_segment(edge_limit: u8, seg: &mut [u8], base: usize) -> u8
-    ensures { λ r. ⌜ r ≡ numberOf (windowAnswer (simpleSegment «edge_limit») (now (seg .entry)) base) ⌝ }
+pub extern "C" fn vp8lf_simple_segment(
+    edge_limit: u8,
+    seg: &mut [u8],
+    base: usize,
+    passed: &mut u8,
+) -> u8
+    ensures { λ r. ⌜ PassedReturned (windowAnswer (simpleSegment «edge_limit») (now (seg .entry)) base) r (now (passed .entry)) (now (passed .exit)) ⌝ }
     ensures { λ _. ⌜ now (seg .exit) ≡ windowed (simpleSegment «edge_limit») (now (seg .entry)) base ⌝ }
 {
-    number(kernels::segments::simple_segment(edge_limit, seg, base))
+    let answer = kernels::segments::simple_segment(edge_limit, seg, base);
+    put_passed(answer, passed)
 }
 
 #[no_mangle]
@@ -52,17 +67,19 @@ pub extern "C" fn vp8lf_subblock_filter(
     edge_limit: u8,
     seg: &mut [u8],
     base: usize,
+    passed: &mut u8,
 ) -> u8
-    ensures { λ r. ⌜ r ≡ numberOf (windowAnswer (subblockFilter «hev_threshold» «interior_limit» «edge_limit») (now (seg .entry)) base) ⌝ }
+    ensures { λ r. ⌜ PassedReturned (windowAnswer (subblockFilter «hev_threshold» «interior_limit» «edge_limit») (now (seg .entry)) base) r (now (passed .entry)) (now (passed .exit)) ⌝ }
     ensures { λ _. ⌜ now (seg .exit) ≡ windowed (subblockFilter «hev_threshold» «interior_limit» «edge_limit») (now (seg .entry)) base ⌝ }
 {
-    number(edges::windows::subblock_filter_window(
+    let answer = edges::windows::subblock_filter_window(
         hev_threshold,
         interior_limit,
         edge_limit,
         seg,
         base,
-    ))
+    );
+    put_passed(answer, passed)
 }
 
 #[no_mangle]
@@ -72,9 +89,17 @@ pub extern "C" fn vp8lf_mb_filter(
     edge_limit: u8,
     seg: &mut [u8],
     base: usize,
+    passed: &mut u8,
 ) -> u8
-    ensures { λ r. ⌜ r ≡ numberOf (windowAnswer (mbFilter «hev_threshold» «interior_limit» «edge_limit») (now (seg .entry)) base) ⌝ }
+    ensures { λ r. ⌜ PassedReturned (windowAnswer (mbFilter «hev_threshold» «interior_limit» «edge_limit») (now (seg .entry)) base) r (now (passed .entry)) (now (passed .exit)) ⌝ }
     ensures { λ _. ⌜ now (seg .exit) ≡ windowed (mbFilter «hev_threshold» «interior_limit» «edge_limit») (now (seg .entry)) base ⌝ }
 {
-    number(edges::windows::mb_filter_window(hev_threshold, interior_limit, edge_limit, seg, base))
+    let answer = edges::windows::mb_filter_window(
+        hev_threshold,
+        interior_limit,
+        edge_limit,
+        seg,
+        base,
+    );
+    put_passed(answer, passed)
 }

@@ -31,16 +31,6 @@ unfolding filterAt
 filterAt-append g plan r c front back p =
     ap (λ (l : List Edge). filterEdges g r c l p) (edgesAt-append plan r c front back) ∙ filterEdges-append g r c (edgesAt plan r c front) (edgesAt plan r c back) p
 
--- the four steps of RFC 6386, section 15.1, lines 4750 to 4770
-pub four-parts : (g : Grid) (plan : Plan) (r c : ℕ) (p : Planes)
-    → filterAt g plan r c places p
-    ≡ filterAt g plan r c (insides horizontal) (filterAt g plan r c (borders horizontal) (filterAt g plan r c (insides vertical) (filterAt g plan r c (borders vertical) p)))
-unfolding places
-four-parts g plan r c p =
-    filterAt-append g plan r c (borders vertical ++ insides vertical) (borders horizontal ++ insides horizontal) p
-    ∙ ap (filterAt g plan r c (borders horizontal ++ insides horizontal)) (filterAt-append g plan r c (borders vertical) (insides vertical) p)
-    ∙ filterAt-append g plan r c (borders horizontal) (insides horizontal) (filterAt g plan r c (insides vertical) (filterAt g plan r c (borders vertical) p))
-
 pub macroblock-parts : (g : Grid) (plan : ℕ → Plan) (m : ℕ) (p : Planes) → filterMacroblock g plan m p ≡ filterAt g (plan m) (gridRow g m) (gridColumn g m) places p
 unfolding filterMacroblock filterAt
 macroblock-parts g plan m p = refl
@@ -52,7 +42,7 @@ unfolding filterAt edgesAt
 around-place g plan r c front q back p =
     filterAt-append g plan r c front (q ∷ back) p ∙ filterEdges-append g r c (edgeAt plan r c q) (edgesAt plan r c back) (filterAt g plan r c front p)
 
--- ---- what a part does to each plane
+-- ---- edges
 
 abbrev pub edgeOf : Plane → Direction → (offset : ℕ) → Kernel → Edge
 edgeOf q d offset k = record { on = q; direction = d; offset = offset; kernel = k }
@@ -62,62 +52,3 @@ pub leave-at : (g : Grid) (r c : ℕ) (qs : List Place) (p : Planes) → filterA
 unfolding filterAt edgesAt edgeAt filterEdges
 leave-at g r c [] p = refl
 leave-at g r c (q ∷ qs) p = leave-at g r c qs p
-
-module _ (g : Grid) (chroma : Bool) (outer inner : Kernel) (inside : Bool) (r c : ℕ) (d : Direction) (p : Planes) where
-  -- the edges at a macroblock's border, if they are edges
-  borders-if : Bool → Planes
-  borders-if b = filterEdges g r c (edges luma ++ (edges chromaU ++ (edges chromaV ++ []))) p
-    where
-      edges : Plane → List Edge
-      edges q = only b (only (filtered chroma q) (edgeOf q d 0 outer ∷ []))
-
-  -- in the leftmost column, or the topmost row
-  pub borders-none : lead d r c ≡ 0 → filterAt g (filter chroma outer inner inside) r c (borders d) p ≡ p
-  unfolding filterAt edgesAt edgeAt borders borders-if only filterEdges
-  borders-none e = ap (λ (n : ℕ). borders-if (ltb 0 n)) e
-
-  pub borders-at : 0 < lead d r c
-      → filterAt g (filter chroma outer inner inside) r c (borders d) p
-      ≡ record {
-        y = filterEdge g r c (edgeOf luma d 0 outer) (p .y);
-        u = cond chroma (filterEdge g r c (edgeOf chromaU d 0 outer) (p .u)) (p .u);
-        v = cond chroma (filterEdge g r c (edgeOf chromaV d 0 outer) (p .v)) (p .v);
-      }
-  unfolding filterAt edgesAt edgeAt borders borders-if only filterEdges
-  borders-at h = ap borders-if (lt-ltb 0 (lead d r c) h) ∙ go chroma
-    where
-      go : (b : Bool)
-          → filterEdges g r c (edgeOf luma d 0 outer ∷ (only b (edgeOf chromaU d 0 outer ∷ []) ++ (only b (edgeOf chromaV d 0 outer ∷ []) ++ []))) p
-          ≡ record {
-            y = filterEdge g r c (edgeOf luma d 0 outer) (p .y);
-            u = cond b (filterEdge g r c (edgeOf chromaU d 0 outer) (p .u)) (p .u);
-            v = cond b (filterEdge g r c (edgeOf chromaV d 0 outer) (p .v)) (p .v);
-          }
-      go true = refl
-      go false = refl
-
-module _ (g : Grid) (chroma : Bool) (outer inner : Kernel) (r c : ℕ) (d : Direction) (p : Planes) where
-  pub insides-none : filterAt g (filter chroma outer inner false) r c (insides d) p ≡ p
-  unfolding filterAt edgesAt edgeAt insides only filterEdges
-  insides-none = refl
-
-  pub insides-at :
-      filterAt g (filter chroma outer inner true) r c (insides d) p
-      ≡ record {
-        y = filterEdge g r c (edgeOf luma d 12 inner) (filterEdge g r c (edgeOf luma d 8 inner) (filterEdge g r c (edgeOf luma d 4 inner) (p .y)));
-        u = cond chroma (filterEdge g r c (edgeOf chromaU d 4 inner) (p .u)) (p .u);
-        v = cond chroma (filterEdge g r c (edgeOf chromaV d 4 inner) (p .v)) (p .v);
-      }
-  unfolding filterAt edgesAt edgeAt insides only filterEdges
-  insides-at = go chroma
-    where
-      go : (b : Bool)
-          → filterEdges g r c
-          (edgeOf luma d 4 inner ∷ edgeOf luma d 8 inner ∷ edgeOf luma d 12 inner ∷ (only b (edgeOf chromaU d 4 inner ∷ []) ++ (only b (edgeOf chromaV d 4 inner ∷ []) ++ []))) p
-          ≡ record {
-            y = filterEdge g r c (edgeOf luma d 12 inner) (filterEdge g r c (edgeOf luma d 8 inner) (filterEdge g r c (edgeOf luma d 4 inner) (p .y)));
-            u = cond b (filterEdge g r c (edgeOf chromaU d 4 inner) (p .u)) (p .u);
-            v = cond b (filterEdge g r c (edgeOf chromaV d 4 inner) (p .v)) (p .v);
-          }
-      go true = refl
-      go false = refl

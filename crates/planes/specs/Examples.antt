@@ -8,11 +8,12 @@ use native.Mathlib.Omega.{arith}
 use lib.ListN.{getD, replicate}
 use Rattle.arithmetic.specs.Numbers.{clamp, u2s, s2u, shr}
 use Rattle.kernels.specs.Kernels as kernels
-use Rattle.kernels.specs.Segment.{Kernel, simpleSegment, subblockFilter, mbFilter, half, taps, smooth, gather, scatter, segment}
-use Rattle.planes.specs.Steps.{steps, Clear}
+use Rattle.kernels.specs.Segment.{Kernel, simpleSegment, subblockFilter, mbFilter, half, taps, smooth, gather, scatter, segment, passes, passesAt, mark}
+use Rattle.planes.specs.Steps.{steps, tally, Clear}
 use Rattle.planes.specs.Planes.{Plane, luma, chromaU, chromaV, Planes, Grid, side, stride}
 use Rattle.planes.specs.Edges.{vertical, horizontal, firstRow, firstColumn, edgeTap, filterEdge, borders, insides, places}
 use Rattle.planes.specs.Macroblock.{Plan, leave, filter, only, edgeAt, edgesAt, filterEdges, filterMacroblock}
+use Rattle.planes.specs.Smoothed.{edgeSmoothed, edgesSmoothed, macroblockSmoothed}
 use Rattle.planes.specs.Reach.{Box, Near, Reach}
 
 abbrev copies : ℕ → List ℕ → List ℕ
@@ -85,6 +86,13 @@ columnsOf line chroma = record { y = layers 16 line; u = layers 8 chroma; v = la
 abbrev corner : Planes
 corner = record { y = copies 4 (replicate 16 100) ++ copies 12 (replicate 4 100 ++ replicate 12 104); u = replicate 64 128; v = replicate 64 128 }
 
+-- 100 in the upper rows, and 101 and 105 below them: an edge between 100 and 105 is too large for the limit 10, until the vertical edges have made it smaller
+abbrev uneven : Planes
+uneven = record { y = copies 4 (replicate 16 100) ++ copies 12 (replicate 4 101 ++ replicate 12 105); u = replicate 64 128; v = replicate 64 128 }
+
+abbrev narrow : (m : ℕ) → Plan
+narrow m = filter true (mbFilter 0 1 10) (subblockFilter 0 1 10) true
+
 -- ---- what they are computed to be
 
 pub record Frames : Type 0 where
@@ -93,17 +101,23 @@ pub record Frames : Type 0 where
   pub stacked-frame : steps (filterMacroblock stack (normal 1 false)) 0 2 (stacked steep) ≡ stacked smoothed
   pub inner-vertical : filterMacroblock single (normal 8 true) 0 (rowsOf (striped 2) (striped 1)) ≡ rowsOf lumaLine chromaLine
   pub inner-horizontal : filterMacroblock single (normal 8 true) 0 (columnsOf (striped 2) (striped 1)) ≡ columnsOf lumaLine chromaLine
+  -- how many positions are smoothed: the border between two macroblocks, in luma and in both chroma planes
+  pub normal-count : tally (filterMacroblock pair (normal 1 false)) (macroblockSmoothed pair (normal 1 false)) 0 2 before ≡ 32
+  -- that border, and all inner edges of luma, whose samples come out equal
+  pub simple-count : tally (filterMacroblock pair simple) (macroblockSmoothed pair simple) 0 2 before ≡ 208
+  -- each as it is met: of the samples as lent 116 would pass
+  pub uneven-count : macroblockSmoothed single narrow 0 uneven ≡ 118
   -- below and right of the corner: the order of RFC 6386, section 15.1, and the other one
   pub vertical-first : getD ((filterMacroblock single (normal 1 true) 0 corner) .y) (4 * 16 + 5) 0 ≡ 102
   pub horizontal-first : getD ((filterEdges single 0 0 (edgesAt (normal 1 true 0) 0 0 (insides horizontal ++ insides vertical)) corner) .y) (4 * 16 + 5) 0 ≡ 101
 
 pub frames : Frames
-unfolding clamp u2s s2u shr half taps smooth gather scatter segment
+unfolding clamp u2s s2u shr half taps smooth gather scatter segment passes passesAt mark tally edgeSmoothed edgesSmoothed macroblockSmoothed
     kernels.apart kernels.edgeValue kernels.filterValue kernels.gainOf kernels.lossOf kernels.adjustment kernels.adjustedP0 kernels.adjustedQ0 kernels.commonAdjust
     kernels.simpleYes kernels.simpleSegment kernels.filterYes kernels.hev kernels.segmentYes kernels.segmentHev kernels.outerStep kernels.subblockFilter
     kernels.part kernels.wideValue kernels.mbFilter
     steps firstRow firstColumn edgeTap filterEdge borders insides places only edgeAt edgesAt filterEdges filterMacroblock
-frames = record { normal-frame = refl; simple-frame = refl; stacked-frame = refl; inner-vertical = refl; inner-horizontal = refl; vertical-first = refl; horizontal-first = refl }
+frames = record { normal-frame = refl; simple-frame = refl; stacked-frame = refl; inner-vertical = refl; inner-horizontal = refl; normal-count = refl; simple-count = refl; uneven-count = refl; vertical-first = refl; horizontal-first = refl }
 
 -- ---- what holds of all planes
 

@@ -3,6 +3,7 @@ pub mod Steps
 pub mod Planes
 pub mod Edges
 pub mod Macroblock
+pub mod Smoothed
 pub mod Reach
 pub mod GridRefusals
 -- the grid that a caller's planes record names

@@ -1,2 +1,3 @@
 -- What private functions promise each other: steps of the proof, which no public contract cites.
 pub mod GridBounds
+pub mod Worked

@@ -27,9 +27,11 @@ pub struct Left {
 
 pub fn answered(answer: PassAnswer, r: Recorded) -> bool {
     match answer {
-        PassAnswer::Done { count, next } => {
-            (r.refusal == 0) & (count == r.first) & (next == r.second)
-        }
+        PassAnswer::Done {
+            count,
+            next,
+            smoothed: _,
+        } => { (r.refusal == 0) & (count == r.first) & (next == r.second) }
         PassAnswer::Refused(refusal) => r.refusal == pass_refusal_number(refusal),
     }
 }

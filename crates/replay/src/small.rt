@@ -74,7 +74,7 @@ pub fn replay_adjust() -> bool {
 
 fn done(answer: KernelAnswer, refusal: u8) -> bool {
     match answer {
-        KernelAnswer::Done => refusal == 0,
+        KernelAnswer::Done(_) => refusal == 0,
         KernelAnswer::NoWindow => refusal == 4,
     }
 }

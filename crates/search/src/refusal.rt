@@ -19,7 +19,11 @@ pub(crate) fn pass_number(answer: PassAnswer) -> u8
     ensures { λ r. ⌜ r ≡ numberOf (passOutcome answer) ⌝ }
 {
     match answer {
-        PassAnswer::Done { count: _, next: _ } => 0,
+        PassAnswer::Done {
+            count: _,
+            next: _,
+            smoothed: _,
+        } => 0,
         PassAnswer::Refused(refusal) => pass_refusal_number(refusal),
     }
 }

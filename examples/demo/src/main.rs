@@ -96,17 +96,21 @@ fn print_table(shown: &[Shown<'_>]) -> Result<(), String> {
     line(
         "The calls are loop_filter_frame_from and loop_filter_inter_frame_from: as in a decoder, header level 0 turns",
     )?;
-    line("the filter off. 'left' marks such a frame, which must come out as it came.\n")?;
+    line("the filter off. 'left' marks such a frame, which must come out as it came.")?;
+    line("'positions smoothed' has those of the frame, of all that were smoothed in the frames of its film.\n")?;
     let wide = shown.iter().map(|shown| shown.stream.len()).max().unwrap_or(0);
     line(format!(
-        "{:wide$}  frame  kind          macroblocks     samples changed  equal  luma rows final after each call",
+        "{:wide$}  frame  kind          macroblocks     samples changed  positions smoothed  equal  luma rows final after each call",
         "film"
     ))?;
     for Shown { stream, frame, outcome } in shown {
         let macroblocks = format!("{} x {}", frame.columns(), frame.rows());
         let samples = format!("{} of {}", outcome.changed, 384 * frame.columns() * frame.rows());
+        let of_film = shown.iter().filter(|shown| shown.stream == *stream);
+        let all: usize = of_film.map(|shown| shown.outcome.smoothed).sum();
+        let positions = format!("{} of {all}", outcome.smoothed);
         line(format!(
-            "{stream:wide$}  {:5}  {:12}  {macroblocks:>11}  {samples:>18}  {:5}  {}",
+            "{stream:wide$}  {:5}  {:12}  {macroblocks:>11}  {samples:>18}  {positions:>18}  {:5}  {}",
             frame.place(),
             kind(frame),
             match (outcome.equal, frame.left_alone()) {

@@ -3,7 +3,7 @@
 
 use film::Frame;
 use vp8_loop_filter::{
-    FinalRows, FrameFilterConfig, InterMode, IntraYMode, KeyframePlanes, MacroblockModes, RefFrame, Refusal,
+    Done, FinalRows, FrameFilterConfig, InterMode, IntraYMode, KeyframePlanes, MacroblockModes, RefFrame, Refusal,
     final_rows, loop_filter_frame_from, loop_filter_inter_frame_from,
 };
 
@@ -15,6 +15,8 @@ pub struct Outcome {
     pub finals: Vec<FinalRows>,
     /// The samples that the filter changed.
     pub changed: usize,
+    /// The positions that it smoothed: the calls' parts added up.
+    pub smoothed: usize,
     /// Whether what was sent is the recorded result, or the frame as it came where the decoder left it so.
     pub equal: bool,
 }
@@ -73,13 +75,15 @@ impl Arrived {
 pub fn row_by_row(frame: &Frame) -> Result<Outcome, String> {
     let config = config(frame);
     let mut arrived = Arrived::nothing(frame);
-    let mut outcome =
-        Outcome { sent: [Vec::new(), Vec::new(), Vec::new()], finals: Vec::new(), changed: 0, equal: false };
+    let sent = [Vec::new(), Vec::new(), Vec::new()];
+    let mut outcome = Outcome { sent, finals: Vec::new(), changed: 0, smoothed: 0, equal: false };
     let mut next = 0;
     for row in 0..frame.rows() {
         arrived.row(frame, row)?;
         let told = |refusal: Refusal| refusal.to_string();
-        next = filter_some(&mut arrived, &config, next, frame.columns()).map_err(told)?;
+        let done = filter_some(&mut arrived, &config, next, frame.columns()).map_err(told)?;
+        next = done.next;
+        outcome.smoothed += done.smoothed;
         let rows = final_rows(&arrived.planes, next).map_err(told)?;
         send(&arrived.planes, rows, &mut outcome.sent);
         outcome.finals.push(rows);
@@ -93,20 +97,19 @@ pub fn row_by_row(frame: &Frame) -> Result<Outcome, String> {
     Ok(outcome)
 }
 
-/// Filters from a start by the frame call, which header level 0 turns off, and answers the next start.
+/// Filters from a start by the frame call, which header level 0 turns off.
 pub fn filter_some(
     arrived: &mut Arrived,
     config: &FrameFilterConfig,
     start: usize,
     allowance: usize,
-) -> Result<usize, Refusal> {
+) -> Result<Done, Refusal> {
     let Arrived { planes, modes, has_coeffs, ref_frames, inter_modes } = arrived;
-    let done = if config.key_frame {
-        loop_filter_frame_from(planes, modes, has_coeffs, config, start, allowance)?
+    if config.key_frame {
+        loop_filter_frame_from(planes, modes, has_coeffs, config, start, allowance)
     } else {
-        loop_filter_inter_frame_from(planes, modes, has_coeffs, ref_frames, inter_modes, config, start, allowance)?
-    };
-    Ok(done.next)
+        loop_filter_inter_frame_from(planes, modes, has_coeffs, ref_frames, inter_modes, config, start, allowance)
+    }
 }
 
 /// Sends the rows that are final and not yet sent.

@@ -26,6 +26,30 @@ fn the_film_is_equal() {
     assert!(!text.contains("decoded"), "{text}");
 }
 
+/// The positions smoothed in the frames of a film add up to those of the film, and a frame that is left has none.
+#[test]
+fn the_positions_add_up() {
+    let (mut command, _) = demo("positions");
+    let text = String::from_utf8(command.output().expect("it starts").stdout).expect("text");
+    let mut table = text.lines().skip_while(|line| !line.starts_with("film "));
+    let column = table.next().and_then(|head| head.find("positions smoothed")).expect("a column");
+    let mut films: Vec<(&str, [usize; 2])> = Vec::new();
+    for row in table.take_while(|line| !line.is_empty()) {
+        let name = row.split(' ').next().expect("a film");
+        let (of_frame, of_film) = row[column..].split_once(" of ").expect("two numbers");
+        let (of_film, rest) = of_film.split_once(' ').expect("more columns");
+        let [part, all] = [of_frame, of_film].map(|number| number.trim().parse::<usize>().expect("a number"));
+        assert!(part == 0 || !rest.trim().starts_with("left"), "{row}");
+        match films.last_mut().filter(|film| film.0 == name) {
+            Some(film) => film.1[0] += part,
+            None => films.push((name, [part, all])),
+        }
+    }
+    assert_eq!(films.len(), film::kept().len() + 1);
+    films.iter().for_each(|(name, [sum, all])| assert_eq!(sum, all, "{name}"));
+    assert!(films.iter().filter(|film| film.1[0] > 0).count() > 8);
+}
+
 /// A reader that has gone: the pictures are written all the same, and nothing is said of it.
 #[test]
 fn a_closed_pipe_is_no_failure() {

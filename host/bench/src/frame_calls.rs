@@ -48,13 +48,12 @@ fn time(case: &Case<'_>, form: Form, config: &FrameFilterConfig, planes: &mut [V
     let layout = Layout { columns, rows, y_stride: 16 * columns, uv_stride: 8 * columns };
     let Frame { segments, references, inter_modes, .. } = frame;
     let lists = Lists { modes: &case.modes, segments, flags: &case.flags, references, inter_modes };
-    let (mut count, mut next) = (0, 0);
+    let (pass, mut out) = (case.pass(), [0; 3]);
     let start = Instant::now();
     let lent = planes.each_mut().map(Vec::as_mut_slice);
-    let answer =
-        entries::filter_as(form, case.pass(), lent, &layout, &lists, config, 0, usize::MAX, &mut count, &mut next);
+    let answer = entries::filter_as(form, pass, lent, &layout, &lists, config, 0, usize::MAX, out.each_mut());
     let time = start.elapsed();
-    assert!(answer == 0 && count == columns * rows, "{case}: the call does the whole frame");
+    assert!(answer == 0 && out[0] == columns * rows, "{case}: the call does the whole frame");
     assert_eq!(*planes == frame.planes, config.loop_filter_level == 0, "{case}: filtered unless the level is 0");
     time
 }

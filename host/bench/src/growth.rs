@@ -77,9 +77,9 @@ impl Picture {
         let lists = Lists { modes, segments, flags, references: &[], inter_modes: &[] };
         let KeyframePlanes { y, u, v, y_stride, uv_stride, mb_cols, mb_rows } = planes;
         let layout = Layout { columns: *mb_cols, rows: *mb_rows, y_stride: *y_stride, uv_stride: *uv_stride };
-        let (n, mut count, mut next) = (modes.len(), 0, 0);
-        let answer = entries::filter(Pass::Key, [y, u, v], &layout, &lists, config, 0, n, &mut count, &mut next);
-        assert!(answer == 0 && count == n, "the call is accepted and does the whole grid");
+        let (n, mut out) = (modes.len(), [0; 3]);
+        let answer = entries::filter(Pass::Key, [y, u, v], &layout, &lists, config, 0, n, out.each_mut());
+        assert!(answer == 0 && out[0] == n, "the call is accepted and does the whole grid");
     }
 }
 

@@ -133,11 +133,11 @@ impl Picture {
         let inter = (!self.config.key_frame).then_some([references, inter_modes]);
         let lists = ByteLists { modes, segments, flags, inter };
         let (mut planes, n) = (PlanesMut::from(planes), modes.len());
-        let (mut count, mut next) = (0, 0);
+        let (mut count, mut next, mut smoothed) = (0, 0, 0);
         while next < n {
             let (start, columns) = (next, planes.mb_cols);
-            let number =
-                lent::filter(Form::Pass, &mut planes, &lists, &self.config, start, columns, &mut count, &mut next);
+            let out = [&mut count, &mut next, &mut smoothed];
+            let number = lent::filter(Form::Pass, &mut planes, &lists, &self.config, start, columns, out);
             assert_eq!(number, 0);
             final_rows(&planes, next)?;
         }

@@ -192,11 +192,12 @@ impl Case<'_> {
     fn run_library(&self, planes: &mut KeyframePlanes, lists: &Lists, allowance: usize) {
         let KeyframePlanes { y, u, v, y_stride, uv_stride, mb_cols, mb_rows } = planes;
         let layout = Layout { columns: *mb_cols, rows: *mb_rows, y_stride: *y_stride, uv_stride: *uv_stride };
-        let (pass, mut start, mut count) = (self.pass(), 0, 0);
+        let (pass, mut start, mut count, mut smoothed) = (self.pass(), 0, 0, 0);
         while start < lists.modes.len() {
             let mut next = start;
             let (planes, config) = ([&mut y[..], u, v], &self.config);
-            let answer = entries::filter(pass, planes, &layout, lists, config, start, allowance, &mut count, &mut next);
+            let out = [&mut count, &mut next, &mut smoothed];
+            let answer = entries::filter(pass, planes, &layout, lists, config, start, allowance, out);
             assert!(answer == 0 && next > start, "{self}: the call is accepted and goes on");
             start = next;
         }

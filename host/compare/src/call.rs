@@ -71,12 +71,15 @@ pub struct Done {
     pub next: usize,
 }
 
-/// What a call answers and leaves.
+/// What a call answers and leaves. How many positions it smoothed, which the Rust does not tell, is left out: the module
+/// `smoothed` compares it.
 #[derive(Clone, PartialEq)]
 pub struct Outcome {
     pub answer: u8,
     /// Count and next start, among their neighbours in memory.
     out: [usize; 5],
+    /// Whether the positions smoothed were written, and whether their neighbours in memory were.
+    smoothed_written: [bool; 3],
     pub planes: Planes,
     lists_stay: bool,
 }
@@ -87,7 +90,8 @@ impl Outcome {
         if let Ok(done) = answer {
             (out[1], out[3]) = (done.count, done.next);
         }
-        Outcome { answer: answer.err().unwrap_or(0), out, planes, lists_stay: true }
+        let smoothed_written = [false, answer.is_ok(), false];
+        Outcome { answer: answer.err().unwrap_or(0), out, smoothed_written, planes, lists_stay: true }
     }
 
     pub fn done(&self) -> Done {
@@ -179,6 +183,11 @@ impl Call {
         }
     }
 
+    /// Whether the inner edges of a macroblock are filtered, if its level is above 0.
+    pub fn inner_edges(&self, m: usize) -> bool {
+        self.lists[MODES][m] == 4 || self.lists[FLAGS][m] != 0
+    }
+
     /// What the Rust's pass makes of the whole grid, or the planes as they are where the filter is off.
     pub fn unbroken(&self) -> Planes {
         if self.skips() {
@@ -206,6 +215,11 @@ impl Call {
     }
 
     pub fn library(&self, memory: &mut Memory) -> Outcome {
+        self.counted(memory).0
+    }
+
+    /// The same, with how many positions were smoothed, if the number was written.
+    pub fn counted(&self, memory: &mut Memory) -> (Outcome, Option<usize>) {
         let mut planes =
             memory.planes.iter_mut().zip(&self.planes).map(|(memory, plane)| memory.lend(self.side, plane));
         let mut plane = || planes.next().expect("three planes");
@@ -213,20 +227,22 @@ impl Call {
         let mut lists = memory.lists.iter_mut().zip(&self.lists).map(|(memory, list)| &*memory.lend(self.side, list));
         let mut list = || lists.next().expect("five lists");
         let lists = Lists { modes: list(), segments: list(), flags: list(), references: list(), inter_modes: list() };
-        let mut out = [UNTOUCHED; 5];
-        let [_, count, _, next, _] = &mut out;
+        let (mut out, mut smoothed) = ([UNTOUCHED; 5], [UNTOUCHED; 3]);
+        let ([_, count, _, next, _], total) = (&mut out, &mut smoothed[1]);
         let answer = guard::calling(self, || {
             let planes = [&mut *y, &mut *u, &mut *v];
             let Call { form, pass, layout, config, start, allowance, .. } = self;
-            ffi::filter_as(*form, *pass, planes, layout, &lists, config, *start, *allowance, count, next)
+            ffi::filter_as(*form, *pass, planes, layout, &lists, config, *start, *allowance, [count, next, total])
         });
         let Lists { modes, segments, flags, references, inter_modes } = lists;
-        Outcome {
+        let outcome = Outcome {
             answer,
             out,
+            smoothed_written: smoothed.map(|number| number != UNTOUCHED),
             planes: [y.to_vec(), u.to_vec(), v.to_vec()],
             lists_stay: self.lists == [modes, segments, flags, references, inter_modes],
-        }
+        };
+        (outcome, Some(smoothed[1]).filter(|number| *number != UNTOUCHED))
     }
 
     pub fn differs(&self, memory: &mut Memory) -> bool {
@@ -358,6 +374,12 @@ impl Outcome {
             [UNTOUCHED, UNTOUCHED, UNTOUCHED, UNTOUCHED, UNTOUCHED] => {}
             [UNTOUCHED, count, UNTOUCHED, next, UNTOUCHED] => text += &format!(", count {count}, next start {next}"),
             out => text += &format!(", count and next start among the numbers beside them {out:?}"),
+        }
+        match self.smoothed_written {
+            [false, written, false] if written == (self.answer == 0) => {}
+            [false, true, false] => text += ", the positions smoothed written",
+            [false, false, false] => text += ", the positions smoothed not written",
+            _ => text += ", a number beside the positions smoothed written",
         }
         if !self.lists_stay {
             text += ", a list changed";

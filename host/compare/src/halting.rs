@@ -93,7 +93,7 @@ fn classify_frame_calls(picture: &Call, k: usize, kind: &mut Kind) {
     kind.add_class("list at header level 0 where the pass filters", (skipped && filters()) as u64);
 }
 
-fn allowance(n: usize, random: &mut Random) -> usize {
+pub fn allowance(n: usize, random: &mut Random) -> usize {
     let (some, few) = (random.below(n + 1), random.below(n / 4 + 1));
     random.one_of(&[0, 1, 1, few, few, few, some, some, n, usize::MAX])
 }

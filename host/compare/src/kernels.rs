@@ -1,11 +1,12 @@
-//! The four kernels on random and extreme windows, at every base around the ends of slices of 0 to 20 bytes.
+//! The four kernels on random and extreme windows, at every base around the ends of slices of 0 to 20 bytes. Whether a
+//! test passed, which the Rust does not tell, is held to document 01's test (`oracle::positions`).
 
 use crate::guard::{self, Guarded, SIDES, Side};
 use crate::shrink::{Cases, shrink, smaller_bytes};
 use crate::soak::Draw;
 use crate::tally::{Kind, Tally};
 use crate::{Plan, ffi};
-use oracle::{loop_filter, opened};
+use oracle::{loop_filter, opened, positions};
 use rules::random::Random;
 use std::fmt;
 use std::panic;
@@ -13,6 +14,8 @@ use std::panic;
 const LONGEST: usize = 20;
 /// What the adjustment and the numbers beside it hold before a call.
 pub const UNTOUCHED: i32 = 0x5A5A_5A5A;
+/// What the byte for the test and those beside it hold before a call.
+pub const NOT_TOLD: u8 = 0x5A;
 
 const ADJUST_CLASSES: [&str; 3] = ["outer taps", "no outer taps", "refused"];
 const SIMPLE_CLASSES: [&str; 5] =
@@ -133,15 +136,26 @@ impl Kernel {
         }
     }
 
-    pub fn call_library(&self, seg: &mut [u8], base: usize, adjustment: &mut i32) -> u8 {
+    pub fn call_library(&self, seg: &mut [u8], base: usize, adjustment: &mut i32, passed: &mut u8) -> u8 {
         match *self {
             Kernel::Adjust(outer) => ffi::common_adjust(outer, seg, base, adjustment),
-            Kernel::Simple(edge) => ffi::simple_segment(edge, seg, base),
+            Kernel::Simple(edge) => ffi::simple_segment(edge, seg, base, passed),
             Kernel::Subblock(Limits { threshold, interior, edge }) => {
-                ffi::subblock_filter(threshold, interior, edge, seg, base)
+                ffi::subblock_filter(threshold, interior, edge, seg, base, passed)
             }
             Kernel::Macroblock(Limits { threshold, interior, edge }) => {
-                ffi::mb_filter(threshold, interior, edge, seg, base)
+                ffi::mb_filter(threshold, interior, edge, seg, base, passed)
+            }
+        }
+    }
+
+    /// What the kernel tells of its test on a window: 1 if it passes, else 0. `common_adjust` has none, and tells nothing.
+    pub fn passed(&self, window: &[u8]) -> u8 {
+        match self {
+            Kernel::Adjust(_) => NOT_TOLD,
+            Kernel::Simple(edge) => positions::passes(window, *edge, 0) as u8,
+            Kernel::Subblock(limits) | Kernel::Macroblock(limits) => {
+                positions::passes(window, limits.edge, limits.interior) as u8
             }
         }
     }
@@ -288,8 +302,9 @@ pub struct Case {
 #[derive(Clone, Copy, PartialEq)]
 struct Answer {
     refusal: u8,
-    /// The adjustment between its neighbours in memory.
+    /// The adjustment between its neighbours in memory, and whether the test passed likewise.
     adjustment: [i32; 3],
+    passed: [u8; 3],
     seg: Slice,
 }
 
@@ -331,10 +346,11 @@ impl Case {
         self.kernel.fits(self.seg.len, self.base)
     }
 
-    /// The Rust's answer; refusal 4 and nothing written where its window does not fit.
+    /// The Rust's answer, with whether the test passes; refusal 4 and nothing written where its window does not fit.
     fn rust(&self) -> Answer {
-        let mut answer = Answer { refusal: 0, adjustment: [UNTOUCHED; 3], seg: self.seg };
+        let mut answer = Answer { refusal: 0, adjustment: [UNTOUCHED; 3], passed: [NOT_TOLD; 3], seg: self.seg };
         if self.fits() {
+            answer.passed[1] = self.kernel.passed(&self.seg.bytes[self.base..self.base + self.kernel.width()]);
             self.kernel.call_rust(&mut answer.seg.bytes[..self.seg.len], self.base, &mut answer.adjustment[1]);
         } else {
             answer.refusal = rules::NO_WINDOW;
@@ -344,10 +360,11 @@ impl Case {
 
     fn library(&self, memory: &mut Guarded, side: Side) -> Answer {
         let lent = memory.lend(side, self.seg.get());
-        let mut adjustment = [UNTOUCHED; 3];
+        let (mut adjustment, mut passed) = ([UNTOUCHED; 3], [NOT_TOLD; 3]);
         let what = format_args!("{self}\n  with {side}");
-        let refusal = guard::calling(&what, || self.kernel.call_library(lent, self.base, &mut adjustment[1]));
-        Answer { refusal, adjustment, seg: Slice::of(lent) }
+        let (told, test) = (&mut adjustment[1], &mut passed[1]);
+        let refusal = guard::calling(&what, || self.kernel.call_library(lent, self.base, told, test));
+        Answer { refusal, adjustment, passed, seg: Slice::of(lent) }
     }
 
     fn rust_panics(&self) -> bool {
@@ -468,9 +485,14 @@ impl fmt::Display for Answer {
     fn fmt(&self, f: &mut fmt::Formatter<'_>) -> fmt::Result {
         write!(f, "answers {}, leaves {:?}", self.refusal, self.seg.get())?;
         match self.adjustment {
-            [UNTOUCHED, UNTOUCHED, UNTOUCHED] => Ok(()),
-            [UNTOUCHED, adjustment, UNTOUCHED] => write!(f, ", adjustment {adjustment}"),
-            beside => write!(f, ", adjustment and the numbers beside it {beside:?}"),
+            [UNTOUCHED, UNTOUCHED, UNTOUCHED] => {}
+            [UNTOUCHED, adjustment, UNTOUCHED] => write!(f, ", adjustment {adjustment}")?,
+            beside => write!(f, ", adjustment and the numbers beside it {beside:?}")?,
+        }
+        match self.passed {
+            [NOT_TOLD, NOT_TOLD, NOT_TOLD] => Ok(()),
+            [NOT_TOLD, passed, NOT_TOLD] => write!(f, ", passed {passed}"),
+            beside => write!(f, ", passed and the bytes beside it {beside:?}"),
         }
     }
 }

@@ -27,6 +27,7 @@ mod settings;
 mod shrink;
 mod slices;
 mod smaller_call;
+mod smoothed;
 mod soak;
 mod sources;
 mod stills;
@@ -59,6 +60,7 @@ const MODULES: &[(&str, Comparison)] = &[
     ("refusals", refusals::compare),
     ("halting", halting::compare),
     ("frames", frames::compare),
+    ("smoothed", smoothed::compare),
     ("final_rows", final_rows::compare),
     ("film", recorded::compare),
     ("search", search::compare),

@@ -171,17 +171,22 @@ fn from_any_start(filter: Filter, most: usize, random: &mut Random) -> Call {
     call
 }
 
-/// A call from any start, as drawn or with up to three changes, many of which are refused. What the Rust's steps leave
-/// of a whole picture is what its pass leaves.
+/// A call from any start, as drawn or with up to three changes, many of which are refused.
+pub fn any_call(filter: Filter, changes: &Changes, random: &mut Random) -> Call {
+    let most = if random.below(100) == 0 { 30 } else { random.one_of(&[2, 4, 9]) };
+    let mut call = from_any_start(filter, most, random);
+    changes.some(&mut call, random.one_of(&[0, 0, 1, 2, 3]), random);
+    if random.below(20) == 0 {
+        call.layout.rows = 0;
+    }
+    call
+}
+
+/// Calls of [`any_call`]. What the Rust's steps leave of a whole picture is what its pass leaves.
 pub fn drawer(filter: Filter) -> Draw {
     let (changes, mut memory) = (Changes::new(filter.pass), Memory::new());
     Box::new(move |random, calls| {
-        let most = if random.below(100) == 0 { 30 } else { random.one_of(&[2, 4, 9]) };
-        let mut call = from_any_start(filter, most, random);
-        changes.some(&mut call, random.one_of(&[0, 0, 1, 2, 3]), random);
-        if random.below(20) == 0 {
-            call.layout.rows = 0;
-        }
+        let call = any_call(filter, &changes, random);
         let expected = call.expected();
         calls.add(filter.entry(), expected.answer);
         let count = expected.done().count;
@@ -313,7 +318,7 @@ fn classify(call: &Call, done: Done, after: &Planes, kind: &mut Kind) {
     class("not filtered", *after == call.planes);
     let first = call.start;
     let level = call.level(first);
-    let inner = call.lists[MODES][first] == 4 || call.lists[FLAGS][first] != 0;
+    let inner = call.inner_edges(first);
     class("level 0", level == 0);
     class("inner edges", level > 0 && inner);
     class("no inner edges", level > 0 && !inner);

@@ -3,7 +3,7 @@
 
 use crate::Plan;
 use crate::guard::{self, Guarded, SIDES, Side};
-use crate::kernels::{ENTRIES, Kernel, KernelOf, UNTOUCHED, middle, window};
+use crate::kernels::{ENTRIES, Kernel, KernelOf, NOT_TOLD, UNTOUCHED, middle, window};
 use crate::shrink::{Cases, shrink};
 use crate::soak::Draw;
 use crate::tally::{Kind, Tally};
@@ -101,8 +101,9 @@ struct Case {
 #[derive(PartialEq)]
 struct Answer {
     refusal: u8,
-    /// The adjustment between its neighbours in memory.
+    /// The adjustment between its neighbours in memory, and whether the test passed likewise.
     adjustment: [i32; 3],
+    passed: [u8; 3],
     seg: Vec<u8>,
 }
 
@@ -122,8 +123,10 @@ impl Case {
     }
 
     fn expected(&self) -> Answer {
-        let mut answer = Answer { refusal: 0, adjustment: [UNTOUCHED; 3], seg: self.seg.clone() };
+        let seg = self.seg.clone();
+        let mut answer = Answer { refusal: 0, adjustment: [UNTOUCHED; 3], passed: [NOT_TOLD; 3], seg };
         if self.fits() {
+            answer.passed[1] = self.kernel.passed(&self.seg[self.base..self.base + self.kernel.width()]);
             self.kernel.call_rust(&mut answer.seg, self.base, &mut answer.adjustment[1]);
         } else {
             answer.refusal = rules::NO_WINDOW;
@@ -133,10 +136,11 @@ impl Case {
 
     fn library(&self, memory: &mut Guarded, side: Side) -> Answer {
         let lent = memory.lend(side, &self.seg);
-        let mut adjustment = [UNTOUCHED; 3];
+        let (mut adjustment, mut passed) = ([UNTOUCHED; 3], [NOT_TOLD; 3]);
         let what = format_args!("{self}\n  with {side}");
-        let refusal = guard::calling(&what, || self.kernel.call_library(lent, self.base, &mut adjustment[1]));
-        Answer { refusal, adjustment, seg: lent.to_vec() }
+        let (told, test) = (&mut adjustment[1], &mut passed[1]);
+        let refusal = guard::calling(&what, || self.kernel.call_library(lent, self.base, told, test));
+        Answer { refusal, adjustment, passed, seg: lent.to_vec() }
     }
 
     fn compare(&self, memory: &mut Guarded, kind: &mut Kind) -> Result<(), String> {
@@ -190,9 +194,10 @@ impl Case {
     fn left(&self, answer: &Answer) -> String {
         let changed: Vec<(usize, u8)> =
             answer.seg.iter().copied().enumerate().filter(|(i, byte)| self.seg[*i] != *byte).take(16).collect();
-        let Answer { refusal, adjustment, .. } = answer;
+        let Answer { refusal, adjustment, passed, .. } = answer;
         format!(
-            "answers {refusal}, changes {changed:?} (place, byte), adjustment between its neighbours {adjustment:?}"
+            "answers {refusal}, changes {changed:?} (place, byte), adjustment between its neighbours {adjustment:?}, \
+             test between its neighbours {passed:?}"
         )
     }
 }

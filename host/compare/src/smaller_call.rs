@@ -22,7 +22,7 @@ pub fn difference(call: &Call, expected: &Outcome, library: &Outcome, memory: &m
     format!("\n{call}\n{}", call.expected().against(&call.library(memory), &call))
 }
 
-fn simpler(call: &Call) -> Cases<'_, Call> {
+pub fn simpler(call: &Call) -> Cases<'_, Call> {
     let config = settings::simpler(&call.config).into_iter().map(|config| Call { config, ..call.clone() });
     let accepted = call.rule().is_ok() && call.layout.columns > 0 && call.layout.rows > 0;
     let grids: Cases<Call> = if accepted { grids(call) } else { Box::new(std::iter::empty()) };

@@ -3,7 +3,8 @@
 use crate::call::{Filter, PASSES};
 use crate::tally::grouped;
 use crate::{
-    coefficients, final_rows, kernels, levels, limits, numbers, passes, search, slices, sources, stills, table,
+    coefficients, final_rows, kernels, levels, limits, numbers, passes, search, slices, smoothed, sources, stills,
+    table,
 };
 use rules::random::Random;
 use std::process::ExitCode;
@@ -60,6 +61,8 @@ fn draws() -> Vec<(usize, Draw)> {
     for pass in PASSES {
         draws.push((100, passes::drawer(pass.into())));
         draws.push((50, passes::drawer(Filter::frame_call(pass))));
+        draws.push((40, smoothed::drawer(pass.into())));
+        draws.push((20, smoothed::drawer(Filter::frame_call(pass))));
         draws.push((40, search::drawer(pass)));
         draws.push((1, sources::drawer(pass)));
         draws.push((16, stills::drawer(pass)));

@@ -5,10 +5,11 @@ use crate::Plan;
 use crate::call::{ByteLists, Call, FLAGS, Filter, Form, PASSES, Pass, Planes, SEGMENTS};
 use crate::ffi::{self, Choice, Lists, Sought};
 use crate::guard::{self, Guarded};
-use crate::kernels::{ENTRIES, Kernel, KernelOf, UNTOUCHED, middle, window};
+use crate::kernels::{ENTRIES, Kernel, KernelOf, NOT_TOLD, UNTOUCHED, middle, window};
 use crate::passes::{filtering, tight, turned_off};
 use crate::pictures::picture;
 use crate::search::{Search, against_source};
+use crate::smoothed::smoothed;
 use crate::stills::Expected;
 use crate::table::{TABLE, by_the_rust};
 use crate::tally::{Kind, Tally};
@@ -70,23 +71,24 @@ fn kernels(kernel: KernelOf, random: &mut Random, vast: &mut Guarded, kind: &mut
 fn at(kernel: Kernel, taps: &[u8; 8], base: usize, slice: &mut [u8]) -> Result<(), String> {
     let about = base.min(LEN).saturating_sub(AROUND)..base.saturating_add(AROUND).min(LEN);
     let (begin, width) = (base - about.start, kernel.width());
-    let mut expected = (rules::NO_WINDOW, UNTOUCHED, vec![0; about.len()]);
+    let mut expected = (rules::NO_WINDOW, UNTOUCHED, NOT_TOLD, vec![0; about.len()]);
     if kernel.fits(LEN, base) {
         expected.0 = 0;
-        expected.2[begin..begin + width].copy_from_slice(middle(taps, width));
-        slice[about.clone()].copy_from_slice(&expected.2);
-        kernel.call_rust(&mut expected.2, begin, &mut expected.1);
+        expected.2 = kernel.passed(middle(taps, width));
+        expected.3[begin..begin + width].copy_from_slice(middle(taps, width));
+        slice[about.clone()].copy_from_slice(&expected.3);
+        kernel.call_rust(&mut expected.3, begin, &mut expected.1);
     }
     let what = format!("  {kernel}, base {base}, slice of {LEN} bytes, window {taps:?}");
-    let mut adjustment = UNTOUCHED;
-    let answer = guard::calling(&what, || kernel.call_library(slice, base, &mut adjustment));
-    let library = (answer, adjustment, slice[about.clone()].to_vec());
+    let (mut adjustment, mut passed) = (UNTOUCHED, NOT_TOLD);
+    let answer = guard::calling(&what, || kernel.call_library(slice, base, &mut adjustment, &mut passed));
+    let library = (answer, adjustment, passed, slice[about.clone()].to_vec());
     slice[about].fill(0);
     if library == expected {
         return Ok(());
     }
     Err(format!(
-        "\n{what}\n  expected {expected:?}\n  library  {library:?} (answer, adjustment, bytes about the window)"
+        "\n{what}\n  expected {expected:?}\n  library  {library:?} (answer, adjustment, passed, bytes about the window)"
     ))
 }
 
@@ -169,26 +171,28 @@ fn pass(call: &Call, vast: &mut Guarded, kind: &mut Kind) -> Result<(), String> 
         let len = if long < 3 { PLANE } else { (1 << 32) + call.macroblocks() };
         let judged = if long < 3 { call.clone() } else { longer_list(call, long - 3) };
         let expected = judged.expected();
+        let done = expected.done();
+        let told = [done.count, done.next, smoothed(&judged, &expected.planes)?];
+        let before = told.map(|number| !number);
+        let wanted = (expected.answer, if expected.answer == 0 { told } else { before });
         let what = format!("{call}\n  with slice {long} (planes, lists) of {len} bytes");
         let lent = [&slices(&judged.planes, &judged.lists), &slices(&expected.planes, &judged.lists)];
         let (library, stays) =
             with_long(lent, (long, len), vast, |[y, u, v, modes, segments, flags, references, inter_modes]| {
                 let lists = Lists { modes, segments, flags, references, inter_modes };
-                let [mut count, mut next] = [expected.done().count, expected.done().next].map(|number| !number);
+                let (planes, mut out) = ([y, u, v], before);
                 let answer = guard::calling(&what, || {
-                    let (count, next) = (&mut count, &mut next);
-                    ffi::filter_as(*form, *pass, [y, u, v], layout, &lists, config, *start, *allowance, count, next)
+                    let out = out.each_mut();
+                    ffi::filter_as(*form, *pass, planes, layout, &lists, config, *start, *allowance, out)
                 });
-                (answer, count, next)
+                (answer, out)
             });
-        let done = expected.done();
-        let [count, next] = [done.count, done.next].map(|number| if expected.answer == 0 { number } else { !number });
         kind.add_cases(1);
         kind.add_class(PLANES.get(long).unwrap_or(&LIST), 1);
-        if library != (expected.answer, count, next) || !stays {
+        if library != wanted || !stays {
             return Err(format!(
-                "\n{what}\n  expected {:?}, library {library:?} (answer, count, next start), slices left as they must be: {stays}",
-                (expected.answer, count, next)
+                "\n{what}\n  expected {wanted:?}, library {library:?} (answer, count, next start, positions smoothed), \
+                 slices left as they must be: {stays}"
             ));
         }
     }

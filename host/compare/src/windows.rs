@@ -2,10 +2,10 @@
 //! the limit at the number that decides and one below it, `common_adjust` with and without outer taps.
 
 use crate::guard::{self, Guarded, Side};
-use crate::kernels::{Case, Kernel, Test, eight};
+use crate::kernels::{Case, Kernel, NOT_TOLD, Test, eight};
 use crate::tally::{Kind, Tally};
 use crate::{Plan, ffi};
-use oracle::loop_filter;
+use oracle::{loop_filter, positions};
 
 /// The quick run's values besides the multiples of 8: near the ends and the middle.
 const FEW: [u8; 10] = [1, 2, 3, 126, 127, 129, 130, 253, 254, 255];
@@ -50,8 +50,9 @@ fn simple_segment(p1: u8, values: &[u8], memory: &mut Guarded, kind: &mut Kind) 
         let mut rust = window;
         loop_filter::simple_segment(edge_limit, &mut rust, 0);
         seg.copy_from_slice(&window);
-        let answer = ffi::simple_segment(edge_limit, seg, 0);
-        if answer == 0 && *seg == rust {
+        let mut passed = NOT_TOLD;
+        let answer = ffi::simple_segment(edge_limit, seg, 0, &mut passed);
+        if answer == 0 && *seg == rust && passed == positions::passes(&window, edge_limit, 0) as u8 {
             return Ok(());
         }
         Err(Case::of_window(Kernel::Simple(edge_limit), &window))

@@ -79,20 +79,31 @@ fn table_of_interior_limits() {
 fn window_that_does_not_fit() {
     let eight = [100, 100, 100, 100, 108, 108, 108, 108];
     for base in [1, usize::MAX] {
-        let mut seg = eight;
+        let (mut seg, mut passed) = (eight, 77);
         assert_eq!(caught(move || rust::mb_filter(0, 1, 20, &mut seg, base)), Err(Panicked));
-        assert_eq!(entries::mb_filter(0, 1, 20, &mut seg, base), 4);
+        assert_eq!(entries::mb_filter(0, 1, 20, &mut seg, base, &mut passed), 4);
         assert_eq!(caught(move || rust::subblock_filter(0, 1, 20, &mut seg, base)), Err(Panicked));
-        assert_eq!(entries::subblock_filter(0, 1, 20, &mut seg, base), 4);
-        assert_eq!(seg, eight);
+        assert_eq!(entries::subblock_filter(0, 1, 20, &mut seg, base, &mut passed), 4);
+        assert_eq!((seg, passed), (eight, 77));
     }
     for base in [5, usize::MAX] {
-        let (mut seg, mut adjustment) = (eight, 77);
+        let (mut seg, mut adjustment, mut passed) = (eight, 77, 77);
         assert_eq!(caught(move || rust::simple_segment(20, &mut seg, base)), Err(Panicked));
-        assert_eq!(entries::simple_segment(20, &mut seg, base), 4);
+        assert_eq!(entries::simple_segment(20, &mut seg, base, &mut passed), 4);
         assert_eq!(caught(move || rust::common_adjust(true, &mut seg, base)), Err(Panicked));
         assert_eq!(entries::common_adjust(true, &mut seg, base, &mut adjustment), 4);
-        assert_eq!((seg, adjustment), (eight, 77));
+        assert_eq!((seg, adjustment, passed), (eight, 77, 77));
+    }
+}
+
+/// Figure I, and a window that comes out as it was.
+#[test]
+fn whether_the_test_passed() {
+    for (window, limit, test) in [([100, 100, 108, 108], 20, 1), ([100, 100, 108, 108], 19, 0), ([7; 4], 0, 1)] {
+        let (mut theirs, mut ours, mut passed) = (window, window, 77);
+        rust::simple_segment(limit, &mut theirs, 0);
+        assert_eq!(entries::simple_segment(limit, &mut ours, 0, &mut passed), 0);
+        assert_eq!((ours, passed), (theirs, test));
     }
 }
 
@@ -264,20 +275,30 @@ impl Picture {
         start: usize,
         allowance: usize,
     ) -> (u8, [usize; 2], KeyframePlanes) {
-        let (mut planes, mut count, mut next) = (self.planes.clone(), 99, 99);
-        let lent = [&mut planes.y[..], &mut planes.u, &mut planes.v];
-        let number =
-            entries::filter(pass, lent, &self.layout(), &self.lists(), config, start, allowance, &mut count, &mut next);
+        let (number, [count, next, _], planes) = self.counted(Form::Pass, pass, config, start, allowance);
         (number, [count, next], planes)
     }
 
     /// What the library's frame call from start 0 leaves, with its count and next start.
     fn frame_call(&self, pass: Pass, config: &FrameFilterConfig, allowance: usize) -> (u8, [usize; 2], KeyframePlanes) {
-        let (mut planes, mut count, mut next) = (self.planes.clone(), 99, 99);
-        let (form, lent) = (Form::Frame, [&mut planes.y[..], &mut planes.u, &mut planes.v]);
-        let (layout, lists) = (self.layout(), self.lists());
-        let number = entries::filter_as(form, pass, lent, &layout, &lists, config, 0, allowance, &mut count, &mut next);
+        let (number, [count, next, _], planes) = self.counted(Form::Frame, pass, config, 0, allowance);
         (number, [count, next], planes)
+    }
+
+    /// The same of either, with the positions smoothed.
+    fn counted(
+        &self,
+        form: Form,
+        pass: Pass,
+        config: &FrameFilterConfig,
+        start: usize,
+        allowance: usize,
+    ) -> (u8, [usize; 3], KeyframePlanes) {
+        let (mut planes, mut out) = (self.planes.clone(), [99; 3]);
+        let lent = [&mut planes.y[..], &mut planes.u, &mut planes.v];
+        let (layout, lists) = (self.layout(), self.lists());
+        let number = entries::filter_as(form, pass, lent, &layout, &lists, config, start, allowance, out.each_mut());
+        (number, out, planes)
     }
 
     /// What the library's whole pass leaves, or the number of its refusal, which leaves the planes alone.
@@ -389,7 +410,7 @@ fn by_hand(picture: &Picture, border: u8, inner: u8, order: [u8; 3]) -> Vec<u8> 
     let mut edge = |limit: u8, taps: &dyn Fn(usize, usize) -> usize| {
         for position in 0..16 {
             let mut window: [u8; 4] = std::array::from_fn(|tap| y[taps(position, tap)]);
-            assert_eq!(entries::simple_segment(limit, &mut window, 0), 0);
+            assert_eq!(entries::simple_segment(limit, &mut window, 0, &mut 0), 0);
             window.iter().enumerate().for_each(|(tap, sample)| y[taps(position, tap)] = *sample);
         }
     };
@@ -414,6 +435,30 @@ fn vertical_edges_in_step_2() {
     let left = picture.both(Pass::Key, &header(32).with_key_frame(true).with_simple(true)).y;
     assert!(left == by_hand(&picture, border, inner, [2, 3, 4]));
     assert!(left != by_hand(&picture, border, inner, [3, 2, 4]));
+}
+
+#[test]
+fn positions_smoothed() {
+    let picture = Picture::new(2, 1).of_mode_b();
+    let mut flat = picture.clone();
+    [&mut flat.planes.y, &mut flat.planes.u, &mut flat.planes.v].into_iter().for_each(|plane| plane.fill(100));
+    for pass in PASSES {
+        let told = |picture: &Picture, level: u8, start: usize, allowance: usize| {
+            let (number, out, planes) = picture.counted(Form::Pass, pass, &header(level), start, allowance);
+            assert_eq!(number, 0);
+            (out, planes)
+        };
+        let (whole, left) = told(&picture, 32, 0, usize::MAX);
+        assert_eq!((whole, left.clone()), ([2, 2, 288], picture.both(pass, &header(32))));
+        let (first, halted) = told(&picture, 32, 0, 1);
+        let (second, planes) = told(&Picture { planes: halted, ..picture.clone() }, 32, 1, 1);
+        assert_eq!((first, second), ([1, 1, 128], [1, 2, 160]));
+        assert!(planes == left);
+        assert!(told(&picture, 1, 0, 2) == ([2, 2, 0], picture.planes.clone()));
+        assert!(told(&flat, 1, 0, 2) == ([2, 2, 288], flat.planes.clone()));
+        assert_eq!(picture.counted(Form::Pass, pass, &header(32), 3, 1).1, [99; 3]);
+        assert_eq!(picture.counted(Form::Frame, pass, &header(0), 0, 2).1, [2, 2, 0]);
+    }
 }
 
 #[test]

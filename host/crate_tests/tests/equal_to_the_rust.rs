@@ -192,7 +192,7 @@ fn halted_passes() {
             .expect("accepted");
 
         let mut halted = [case.planes.clone(), case.planes.clone()];
-        let mut starts = [0; 2];
+        let (mut starts, mut smoothed) = ([0; 2], [0; 2]);
         while starts != [n; 2] {
             let allowance = random.below(n + 1);
             let [key_start, inter_start] = starts;
@@ -208,14 +208,33 @@ fn halted_passes() {
                 inter_start,
                 allowance,
             );
-            for (start, done) in starts.iter_mut().zip([key, inter]) {
+            for ((start, sum), done) in starts.iter_mut().zip(&mut smoothed).zip([key, inter]) {
                 let done = done.expect("accepted");
-                assert_eq!(done, here::Done { count: allowance.min(n - *start), next: *start + done.count });
+                assert_eq!((done.count, done.next), (allowance.min(n - *start), *start + done.count));
                 *start = done.next;
+                *sum += done.smoothed;
             }
         }
         assert_eq!(halted, [key, inter]);
+        assert_eq!(smoothed, [false, true].map(|inter| smoothed_by_the_model(&case, &case.config.0, inter)));
     }
+}
+
+/// The positions that a pass smooths: the Rust's own kernels, levels and limits, position by position.
+fn smoothed_by_the_model(case: &Case, config: &oracle::FrameFilterConfig, inter: bool) -> usize {
+    let mut walk = oracle::positions::Walk::new(of_the_rust(&case.planes), *config);
+    let mut smoothed = 0;
+    for (m, modes) in case.modes.0.iter().enumerate() {
+        let (segment, mode) = (modes.segment_id, modes.y_mode);
+        let (reference, inter_mode) = (case.references.0[m], case.inter_modes.0[m]);
+        let level = match inter {
+            false => oracle::loop_filter::calculate_mb_filter_level(config, segment, mode),
+            true => oracle::loop_filter::calculate_mb_filter_level_inter(config, segment, reference, inter_mode, mode),
+        };
+        let inner = mode == oracle::IntraYMode::B || case.flags[m];
+        smoothed += walk.step(m, level, inner).smoothed;
+    }
+    smoothed
 }
 
 /// What the Rust's passes leave, key and inter, or the planes as they are where the header level is 0.
@@ -230,48 +249,74 @@ fn frames_by_the_rust(case: &Case, config: &oracle::FrameFilterConfig) -> [oracl
     [key, inter]
 }
 
-/// What each frame call leaves: of the key frame, then of the inter frame.
-fn frames_here(case: &Case, config: &here::FrameFilterConfig, halt: usize) -> [Vec<here::KeyframePlanes>; 2] {
+/// What a call leaves of the planes.
+fn left(
+    case: &Case,
+    filter: impl FnOnce(&mut here::KeyframePlanes) -> Result<(), here::Refusal>,
+) -> here::KeyframePlanes {
+    let mut planes = case.planes.clone();
+    filter(&mut planes).expect("accepted");
+    planes
+}
+
+/// What each frame call of the key frame leaves. Those that tell how many positions they smoothed come to this number.
+fn key_frames_here(
+    case: &Case,
+    config: &here::FrameFilterConfig,
+    halt: usize,
+    smoothed: usize,
+) -> Vec<here::KeyframePlanes> {
+    let Case { modes: (_, modes), coeffs: (_, coeffs), flags, .. } = case;
+    let from =
+        |planes: &mut _, start, allowance| here::loop_filter_frame_from(planes, modes, flags, config, start, allowance);
+    vec![
+        left(case, |planes| here::loop_filter_frame(planes, modes, coeffs, config)),
+        left(case, |planes| here::loop_filter_frame_flags(planes, modes, flags, config)),
+        left(case, |planes| halted(|start, allowance| from(planes, start, allowance), halt, flags.len(), smoothed)),
+        left(case, |planes| prepared(here::FramePass::of_frame(planes, modes, flags, None, config)?, halt, smoothed)),
+    ]
+}
+
+/// The same of the inter frame.
+fn inter_frames_here(
+    case: &Case,
+    config: &here::FrameFilterConfig,
+    halt: usize,
+    smoothed: usize,
+) -> Vec<here::KeyframePlanes> {
     let Case { modes: (_, modes), coeffs: (_, coeffs), flags, .. } = case;
     let (references, inter_modes) = (&case.references.1, &case.inter_modes.1);
-    let n = flags.len();
-    let left = |filter: &dyn Fn(&mut here::KeyframePlanes) -> Result<(), here::Refusal>| {
-        let mut planes = case.planes.clone();
-        filter(&mut planes).expect("accepted");
-        planes
-    };
-    let done = |done: here::Done, next: usize, count: usize| assert_eq!(done, here::Done { count, next });
-    let key = vec![
-        left(&|planes| here::loop_filter_frame(planes, modes, coeffs, config)),
-        left(&|planes| here::loop_filter_frame_flags(planes, modes, flags, config)),
-        left(&|planes| {
-            done(here::loop_filter_frame_from(planes, modes, flags, config, 0, halt)?, halt, halt);
-            done(here::loop_filter_frame_from(planes, modes, flags, config, halt, usize::MAX)?, n, n - halt);
-            Ok(())
-        }),
-        left(&|planes| prepared(here::FramePass::of_frame(planes, modes, flags, None, config)?, halt)),
-    ];
     let from = |planes: &mut _, start, allowance| {
         here::loop_filter_inter_frame_from(planes, modes, flags, references, inter_modes, config, start, allowance)
     };
-    let info = here::InterFilterInfo { ref_frames: references, inter_modes };
-    let inter = vec![
-        left(&|planes| here::loop_filter_inter_frame(planes, modes, coeffs, references, inter_modes, config)),
-        left(&|planes| here::loop_filter_inter_frame_flags(planes, modes, flags, references, inter_modes, config)),
-        left(&|planes| {
-            done(from(planes, 0, halt)?, halt, halt);
-            done(from(planes, halt, usize::MAX)?, n, n - halt);
-            Ok(())
-        }),
-        left(&|planes| prepared(here::FramePass::of_frame(planes, modes, flags, Some(&info), config)?, halt)),
-    ];
-    [key, inter]
+    let info = Some(&here::InterFilterInfo { ref_frames: references, inter_modes });
+    vec![
+        left(case, |planes| here::loop_filter_inter_frame(planes, modes, coeffs, references, inter_modes, config)),
+        left(case, |planes| here::loop_filter_inter_frame_flags(planes, modes, flags, references, inter_modes, config)),
+        left(case, |planes| halted(|start, allowance| from(planes, start, allowance), halt, flags.len(), smoothed)),
+        left(case, |planes| prepared(here::FramePass::of_frame(planes, modes, flags, info, config)?, halt, smoothed)),
+    ]
 }
 
-/// A prepared pass that is halted once.
-fn prepared(mut pass: here::FramePass<'_>, halt: usize) -> Result<(), here::Refusal> {
-    assert_eq!(pass.advance(halt)?, here::Done { count: halt, next: halt });
-    pass.advance(usize::MAX)?;
+/// Two calls, of which the first ends at `halt`, that smooth so many positions together.
+fn halted(
+    mut from: impl FnMut(usize, usize) -> Result<here::Done, here::Refusal>,
+    halt: usize,
+    n: usize,
+    smoothed: usize,
+) -> Result<(), here::Refusal> {
+    let (first, second) = (from(0, halt)?, from(halt, usize::MAX)?);
+    assert_eq!([first.count, first.next, second.count, second.next], [halt, halt, n - halt, n]);
+    assert_eq!(first.smoothed + second.smoothed, smoothed);
+    Ok(())
+}
+
+/// A prepared pass that is halted once, and smooths so many positions.
+fn prepared(mut pass: here::FramePass<'_>, halt: usize, smoothed: usize) -> Result<(), here::Refusal> {
+    let first = pass.advance(halt)?;
+    assert_eq!(first, here::Done { count: halt, next: halt, smoothed: pass.smoothed() });
+    let second = pass.advance(usize::MAX)?;
+    assert_eq!((first.smoothed + second.smoothed, pass.smoothed()), (smoothed, smoothed));
     assert!(pass.is_done());
     Ok(())
 }
@@ -286,7 +331,13 @@ fn frame_calls() {
         for level in [case.config.0.loop_filter_level, 0] {
             let config = (case.config.0.with_loop_filter_level(level), case.config.1.with_loop_filter_level(level));
             let expected = frames_by_the_rust(&case, &config.0);
-            for (expected, left) in expected.iter().zip(frames_here(&case, &config.1, halt)) {
+            let smoothed = [false, true].map(|inter| match level {
+                0 => 0,
+                _ => smoothed_by_the_model(&case, &config.0, inter),
+            });
+            let key = key_frames_here(&case, &config.1, halt, smoothed[0]);
+            let inter = inter_frames_here(&case, &config.1, halt, smoothed[1]);
+            for (expected, left) in expected.iter().zip([key, inter]) {
                 left.iter().for_each(|planes| assert_eq!(of_the_rust(planes), *expected));
             }
             changed += (expected[0] != of_the_rust(&case.planes)) as usize;
@@ -333,13 +384,15 @@ fn while_decoding(case: &Case, inter: bool, random: &mut Random) -> here::Keyfra
         while pass.next() < (row + 1) * mb_cols {
             let (start, left) = (pass.next(), (row + 1) * mb_cols - pass.next());
             let count = 1 + random.below(left);
-            assert_eq!(pass.advance(count), Ok(here::Done { count, next: start + count }));
+            let done = pass.advance(count).expect("accepted");
+            assert_eq!((done.count, done.next), (count, start + count));
         }
         let here::FinalRows { luma, chroma } = pass.final_rows().expect("accepted");
         assert_eq!((luma == 16 * mb_rows, chroma == 8 * mb_rows), (pass.is_done(), pass.is_done()));
         sent.extend_from_slice(&pass.planes().y[sent.len()..luma * y_stride]);
     }
-    assert_eq!(pass.advance(1), Ok(here::Done { count: 0, next: n }));
+    assert_eq!(pass.smoothed(), smoothed_by_the_model(case, &case.config.0, inter));
+    assert_eq!(pass.advance(1), Ok(here::Done { count: 0, next: n, smoothed: 0 }));
     assert_eq!(sent, planes.y);
     planes
 }
@@ -578,7 +631,8 @@ fn kernels_and_numbers() {
         let window = random.samples(12);
         let (base, limits) = (random.below(5), [0; 3].map(|_| random.below(60) as u8));
         let [hev, interior, edge] = limits;
-        let (mut old, mut new) = (window.clone(), window.clone());
+        let (mut old, mut new, mut told) = (window.clone(), window.clone(), window.clone());
+        let passes = |width| oracle::positions::passes(&window[base..base + width], edge, interior);
         match random.below(5) {
             0 => {
                 let expected = oracle::loop_filter::common_adjust(hev % 2 == 0, &mut old, base);
@@ -587,14 +641,20 @@ fn kernels_and_numbers() {
             1 => {
                 oracle::loop_filter::simple_segment(edge, &mut old, base);
                 assert_eq!(here::simple_segment(edge, &mut new, base), Ok(()));
+                assert_eq!(here::simple_segment_passed(edge, &mut told, base), Ok(passes(4)));
+                assert_eq!(told, new);
             }
             2 => {
                 oracle::loop_filter::subblock_filter(hev, interior, edge, &mut old, base);
                 assert_eq!(here::subblock_filter(hev, interior, edge, &mut new, base), Ok(()));
+                assert_eq!(here::subblock_filter_passed(hev, interior, edge, &mut told, base), Ok(passes(8)));
+                assert_eq!(told, new);
             }
             3 => {
                 oracle::loop_filter::mb_filter(hev, interior, edge, &mut old, base);
                 assert_eq!(here::mb_filter(hev, interior, edge, &mut new, base), Ok(()));
+                assert_eq!(here::mb_filter_passed(hev, interior, edge, &mut told, base), Ok(passes(8)));
+                assert_eq!(told, new);
             }
             _ => {
                 let v = random.below(2000) as i32 - 1000;

@@ -136,6 +136,7 @@ pub fn calculate_mb_filter_level_inter(
     lent::calculate_mb_filter_level_inter(&settings(config), segment, reference, inter_mode, mode, level)
 }
 
+/// Count, next start and positions smoothed go to `out`.
 #[allow(clippy::too_many_arguments)]
 pub fn filter(
     pass: Pass,
@@ -145,10 +146,9 @@ pub fn filter(
     config: &FrameFilterConfig,
     start: usize,
     allowance: usize,
-    count: &mut usize,
-    next: &mut usize,
+    out: [&mut usize; 3],
 ) -> u8 {
-    filter_as(Form::Pass, pass, planes, layout, lists, config, start, allowance, count, next)
+    filter_as(Form::Pass, pass, planes, layout, lists, config, start, allowance, out)
 }
 
 /// A pass, or the frame call beside it.
@@ -162,12 +162,11 @@ pub fn filter_as(
     config: &FrameFilterConfig,
     start: usize,
     allowance: usize,
-    count: &mut usize,
-    next: &mut usize,
+    out: [&mut usize; 3],
 ) -> u8 {
     let Layout { columns: mb_cols, rows: mb_rows, y_stride, uv_stride } = *layout;
     let mut planes = PlanesMut { y, u, v, y_stride, uv_stride, mb_cols, mb_rows };
-    lent::filter(form, &mut planes, &lists.of(pass), &settings(config), start, allowance, count, next)
+    lent::filter(form, &mut planes, &lists.of(pass), &settings(config), start, allowance, out)
 }
 
 pub fn final_rows(layout: &Layout, start: usize, luma: &mut usize, chroma: &mut usize) -> u8 {

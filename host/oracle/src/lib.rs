@@ -6,7 +6,7 @@
 //!
 //! [`loop_filter`] is the original module. The functions that the original crate kept to itself are reached through
 //! [`mb_has_coeffs`], [`filter_frame_flags`] and [`filter_inter_frame_flags`]; those private to the module through
-//! [`opened`], which is a child of a second copy of its text.
+//! [`opened`], which is a child of a second copy of its text. [`positions`] tells which positions its passes smooth.
 
 #[path = "../original/frame.rs"]
 #[allow(dead_code, clippy::all)]
@@ -29,6 +29,7 @@ pub mod motion_comp;
 #[rustfmt::skip]
 pub mod near_mv;
 
+pub mod positions;
 mod shims;
 pub use shims::coded_header;
 use shims::{bool_decoder, intra_predict, inverse_transform, motion_vector, reconstruct};

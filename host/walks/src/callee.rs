@@ -78,8 +78,8 @@ impl Callee {
     }
 }
 
-/// A callee that takes plain values and answers a struct of them. What it asks is made of nothing, and what is kept of
-/// its return is the answer and what is said of it.
+/// A callee that takes plain values and answers one. What it asks is made of nothing, and what is kept of its return is
+/// the answer and what is said of it.
 pub struct Asked {
     pub callee: Callee,
     /// The ghost value of the call, the lemma that what is asked is had, and what is passed.
@@ -92,8 +92,9 @@ pub struct Asked {
 }
 
 impl Asked {
-    /// It is called on these locals, and its answer stands in a local.
-    pub fn calls(&self, at: &mut Context, locals: &[usize], into: usize) {
+    /// It is called on these locals, and returns: what is said of its answer is known, and so is what the answer's
+    /// machine value is, by this name. The answer is the first thing held.
+    pub fn answers(&self, at: &mut Context, locals: &[usize], is: &str) {
         let Asked { callee, to, asks, arguments, said, heard } = self;
         at.say(format!("use0 W (raw ({} .pre {to})) {asks} $", callee.contract));
         at.turn(&[], &[PRE]);
@@ -104,10 +105,15 @@ impl Asked {
         let none = ("no lifetimes", 0);
         at.split("split", RETURNED, [none, RESULT]);
         at.drop(none);
-        callee.peeks(at, "is");
+        callee.peeks(at, is);
+    }
+
+    /// It is called on these locals, and its answer, a struct, stands in a local.
+    pub fn calls(&self, at: &mut Context, locals: &[usize], into: usize) {
+        self.answers(at, locals, "is");
         at.drop(RESULT);
         at.line();
-        let (letter, answer) = (callee.letter, callee.answer[0]);
+        let (letter, answer) = (self.callee.letter, self.callee.answer[0]);
         let the = format!("{letter}.the-type {letter}′.the-laws");
         let typed = format!("(LL.lawful {the} 𝓤 H A W .typed {answer} _ is .0)");
         at.say(format!("land ! {} $", at.init(into, &typed)));

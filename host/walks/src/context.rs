@@ -189,6 +189,11 @@ impl Context {
         format!("(from ! (stop !)) (init ! {} refl {typed})", self.place((CELL, local)))
     }
 
+    /// A local that has a value, as the place that is assigned.
+    pub fn store(&self, local: usize, typed: &str) -> String {
+        format!("(from ! (stop !)) (store ! {} refl {typed})", self.place((CELL, local)))
+    }
+
     pub fn assign(&mut self, value: &str, local: usize, typed: &str) {
         self.say(format!("assigns ! {value} {} $", self.init(local, typed)));
     }

@@ -1,5 +1,6 @@
 //! `RecordWalk` of `crates/frame`: a pass over a lent list of records. A judge says what is to be done; a loop copies
-//! each record out of the list and hands it to the step, with the planes lent again for each call.
+//! each record out of the list and hands it to the step, with the planes lent again for each call and the total so far.
+//! The step returns the new total, and the last callee puts it into the answer.
 
 use crate::Proof;
 use crate::callee::{Asked, Callee, OF_TABLES, asks};
@@ -7,7 +8,9 @@ use crate::context::{ALIVE, CELL, Context, ENSURED, Held, OWNED, PRE, RESULT, RE
 use crate::mir;
 use crate::params::Kind::{Kept, Number, Plain, Records};
 use crate::params::{Param, lifetime_values, lifetimes, number_made, params, row_values};
-use crate::text::{Values, alive, component, components, fill, joined, list, parenthesized, product, sub, subs, tuple};
+use crate::text::{
+    Values, alive, component, components, fill, indented, joined, list, parenthesized, product, sub, subs, tuple,
+};
 
 const TEMPLATE: &str = include_str!("../templates/records.txt");
 
@@ -25,6 +28,24 @@ fn plane(number: usize) -> Held {
 
 fn token(number: usize) -> Held {
     ("token", number)
+}
+
+/// Of a plane that is lent again: the lifetime of the call, the plane at this lifetime, what is had back when it ends,
+/// and the plane's last list.
+fn lent_for(number: usize) -> Held {
+    ("lent", number)
+}
+
+fn lent_again(number: usize) -> Held {
+    ("again", number)
+}
+
+fn back(number: usize) -> Held {
+    ("back", number)
+}
+
+fn last(number: usize) -> Held {
+    ("last", number)
 }
 
 /// The judge, which says what is to be done.
@@ -46,6 +67,25 @@ const JUDGE: Asked = Asked {
     heard: ["said", "e"],
 };
 
+/// The last callee, which puts the total into the judge's answer.
+const COUNTED: Asked = Asked {
+    callee: Callee {
+        module: "counted",
+        clauses: "counted.clauses 𝓤 H A mem run",
+        contract: "Counted 𝓤 H A mem run",
+        known: "known-counted",
+        fm: OF_TABLES,
+        answer: ["x", "w"],
+        answers: "PassAnswer",
+        letter: "N",
+    },
+    to: "(to-count (n .0))",
+    asks: "(goes-count (n .0) (n .1))",
+    arguments: "(summed (n .0))",
+    said: "x ≡ withTotal (r .answer) (total (n .0))",
+    heard: ["summed-up (n .0)", "ex"],
+};
+
 struct Walk {
     params: Vec<Param>,
     /// The local of the list, and the number of its lifetime.
@@ -53,10 +93,10 @@ struct Walk {
     list_lifetime: usize,
     // the locals after the parameters
     batch: usize,
+    total: usize,
     index: usize,
     lengths: usize,
     test: usize,
-    unit: usize,
     lent: usize,
     offset: usize,
     pointer: usize,
@@ -87,15 +127,14 @@ impl Walk {
         let records = params.iter().find(|param| param.kind == Records).expect("a list is passed");
         let slices = params.iter().filter(|param| param.kind.is_slice()).count();
         let batch = params.len() + 1;
-        let index = batch + 1;
+        let (total, index) = (batch + 1, batch + 2);
         let lengths = index + 1;
         let test = lengths + slices;
-        let unit = test + 1;
-        let lent = unit + 1;
+        let lent = test + 1;
         let offset = lent + 2 * PLANES.len();
         let (pointer, record, count) = (offset + 1, offset + 2, offset + 3);
         let (list, list_lifetime) = (records.place + 1, records.lifetime);
-        Walk { list, list_lifetime, batch, index, lengths, test, unit, lent, offset, pointer, record, count, params }
+        Walk { list, list_lifetime, batch, total, index, lengths, test, lent, offset, pointer, record, count, params }
     }
 
     // ---- what is passed
@@ -126,7 +165,17 @@ impl Walk {
         self.lengths + slice.lifetime
     }
 
-    /// The locals that are passed to the judge, and to the step.
+    /// What `counted` is passed after n steps: the batch and the total.
+    fn counted() -> Vec<(Param, String)> {
+        let known = [("r", "machP r", "is"), ("total n", "vint w64 (total n)", "sum-fits n most")];
+        let params = params(&[("r", Plain("Batch", "P")), ("total", Number)]);
+        let of = |(param, (name, value, witness)): (Param, (&str, &str, &str))| {
+            (Param { value: value.into(), witness: witness.into(), ..param }, String::from(name))
+        };
+        params.into_iter().zip(known).map(of).collect()
+    }
+
+    /// The locals that are passed to the judge, to the step and to `counted`.
     fn judge_locals(&self) -> Vec<usize> {
         let local = |param: &Param| if param.kind.is_slice() { self.length(param) } else { param.place + 1 };
         self.judged().into_iter().map(|(param, _)| local(param)).collect()
@@ -135,15 +184,19 @@ impl Walk {
     fn step_locals(&self) -> Vec<usize> {
         let planes = (0..PLANES.len()).map(|number| self.lent + 2 * number + 1);
         let structs = self.stepped().into_iter().map(|param| param.place + 1);
-        planes.chain(structs).chain([self.index, self.record]).collect()
+        planes.chain(structs).chain([self.index, self.record, self.total]).collect()
+    }
+
+    fn counted_locals(&self) -> [usize; 2] {
+        [self.batch, self.total]
     }
 
     // ---- the locals
 
     fn types(&self) -> Vec<String> {
-        let words = (self.index..self.test).map(|_| "word");
+        let words = (self.total..self.test).map(|_| "word");
         let lent = PLANES.iter().flat_map(|_| mir::LENT);
-        let after = ["P′.mir"].into_iter().chain(words).chain(["tyBool", "tyUnit"]).chain(lent);
+        let after = ["P′.mir"].into_iter().chain(words).chain(["tyBool"]).chain(lent);
         let after = after.chain(["word", "tyPtr", "T′.mir"]).map(String::from);
         let types: Vec<_> =
             [String::from("N′.mir")].into_iter().chain(self.params.iter().map(mir::ty)).chain(after).collect();
@@ -166,13 +219,15 @@ impl Walk {
         joined(cells.chunks(8), "\n          ∷ ", |line| line.join(" ∷ "))
     }
 
-    /// The value of a local once the judge has returned. That of the macroblock's number is given.
-    fn value(&self, local: usize, index: Option<&str>) -> Option<String> {
+    /// The value of a local once the judge has returned. The total and the macroblock's number have one after so many
+    /// steps.
+    fn value(&self, local: usize, steps: Option<&str>) -> Option<String> {
         let length = self.slices().find(|slice| self.length(slice) == local);
         match local {
             _ if (1..=self.params.len()).contains(&local) => Some(parenthesized(&self.params[local - 1].value)),
             _ if local == self.batch => Some(String::from("(machP r)")),
-            _ if local == self.index => index.map(|index| format!("(vint w64 {index})")),
+            _ if local == self.total => steps.map(|steps| format!("(vint w64 (total {steps}))")),
+            _ if local == self.index => steps.map(|steps| format!("(vint w64 (place-of {steps}))")),
             _ => length.map(|slice| format!("(vint w64 (length {}))", slice.name)),
         }
     }
@@ -211,10 +266,10 @@ impl Walk {
             };
             tuple(self.params.iter().map(text))
         };
-        let mut at = Context::new(self.held());
-        let ends = "ends-at 𝓤 H A filter.ended stayed (clauses K 𝓤) W bound machA (r .answer)";
+        let mut at = Context::new([RESULT].into_iter().chain(self.held()));
+        let ends = "ends-at 𝓤 H A filter.ended stayed (clauses K 𝓤) W bound w x";
         at.say(format!("suffices ! _ ({ends} {} {}) $", of_params("after"), of_params("same")));
-        at.say("says ! (passed K lay cfg ms st al p₀ r e n en) $");
+        at.say("says ! (passed K lay cfg ms st al p₀ r e n en x ex) $");
         at.nothing(ALIVE);
         (0..self.lifetimes()).rev().for_each(|number| at.join("join", token(number), ALIVE));
         at.turn(&[ALIVE], &[]);
@@ -228,11 +283,9 @@ impl Walk {
                 _ => at.say("nothing ! $ fjoin ! $"),
             }
         }
-        at.turn(&[OWNED], &[]);
-        at.say("frame ! $");
+        at.turn(&[OWNED, RESULT], &[]);
+        at.say("frame ! $ done !");
         assert!(at.held().is_empty(), "all that is held is used");
-        let answer = "N.the-row (Is N.the-row) (EL.makes N.the-type N′.the-plain 𝓤 H A) (r .answer) _ isA";
-        at.say(format!("owned ! {answer} $ done !"));
         at.filled(8, WIDTH)
     }
 
@@ -251,11 +304,37 @@ impl Walk {
 
     /// A turn that does a step.
     fn more(&self) -> String {
-        let (lent_for, held_as) = (|number| ("lent", number), |number| ("again", number));
-        let (back, last) = (|number| ("back", number), |number| ("last", number));
-        let list_token = token(self.list_lifetime);
-        let mut at = Context::new(self.held().into_iter().chain(locals(self.count)));
+        let before: Vec<Held> = self.held().into_iter().chain(locals(self.count)).collect();
+        let mut at = Context::new(before.clone());
         self.tests(&mut at, "stays");
+        self.points(&mut at);
+        at.note("the record is copied out of the list");
+        self.copies(&mut at);
+        at.note("each plane is lent again, for a lifetime of the call");
+        (0..PLANES.len()).for_each(|number| lends_again(&mut at, number));
+        at.note("what the callee asks is put together");
+        self.hands(&mut at);
+        self.steps_on(&mut at);
+        hears_step(&mut at);
+        self.totals(&mut at);
+        at.note("the lifetimes are ended, and the planes come back at their last lists");
+        (0..PLANES.len()).for_each(|number| comes_back(&mut at, number));
+        at.note("the next turn");
+        let fits = "record { fits = next-fits }";
+        let (index, store) = (at.var(self.index), at.store(self.index, &format!("(tt, {fits})")));
+        at.say(format!("assigns-last ! (bin ! {index} (lit ! tt) ({fits})) {store} $"));
+        self.rewrites(&mut at, self.index, "j : ℕ", "(vint w64 j)", "(add-assoc (r .from) (n .0) 1)");
+        (self.test..self.count).for_each(|local| at.forget(local));
+        at.drop(OWNED);
+        at.drop(ALIVE);
+        at.front(&self.held());
+        assert!(at.held() == before, "as before the turn");
+        at.close("again ! Nearer At n next nearer");
+        at.filled(10, WIDTH)
+    }
+
+    /// Pointer and slice of each plane, and the pointer to the record.
+    fn points(&self, at: &mut Context) {
         for number in 0..PLANES.len() {
             at.lend(number + 1, self.lent + 2 * number, &sub("room", number));
         }
@@ -264,9 +343,12 @@ impl Walk {
         at.assign(&offset, self.offset, &format!("(tt, {far})"));
         let pointer = format!("(bin ! {} {} tt)", at.field(self.list, 0), at.var(self.offset));
         at.assign(&pointer, self.pointer, "(tt, tt)");
-        self.rewrites(&mut at, self.pointer, "p : ℕ", "(vptr bl p)", "(sym (place-is 8 ol i))");
+        self.rewrites(at, self.pointer, "p : ℕ", "(vptr bl p)", "(sym (place-is 8 ol i))");
+    }
 
-        at.note("the record is copied out of the list");
+    /// The record is copied out of the list.
+    fn copies(&self, at: &mut Context) {
+        let list_token = token(self.list_lifetime);
         at.front(&[LIST, list_token]);
         let row = "R (Is R) (shows 𝓤 H A R) (LL.vals T.the-type T′.the-laws) (LL.tells T.the-type T′.the-laws)";
         at.open(format!("looks-slice ! tt {row} (LL.copy T.the-type T′.the-copy 𝓤 H A W) ms bl ol (λ q″."));
@@ -282,120 +364,50 @@ impl Walk {
             "elem-back ! R q″ ms i noRecord (mach (elem (n .0)) ∷ []) bl ol listed $ shuts-slice ! tt R q″ ms bl ol $",
         );
         at.turn(&opened, &[list_token, LIST]);
+    }
 
-        at.note("each plane is lent again, for a lifetime of the call");
-        for (number, field) in PLANES.iter().enumerate() {
-            let [now, same] = ["after", "same"].map(|what| format!("({what} (n .0) .{field})"));
-            at.turn(&[], &[lent_for(number)]);
-            at.open(format!("lft-new ! tt (λ {}.", sub("ν", number)));
-            at.front(&[plane(number), token(number)]);
-            let lifetime = format!("({} ∷ [])", sub("ν", number));
-            let own = owns_as(number, &lifetime, "δ", &now);
-            let borrow = borrow(number);
-            let again = format!("‵ (LentAgain {borrow} δ {now})");
-            let lends = format!("(lends-at {borrow} {} (sym {same}))", at_length(number, &now));
-            let delta = sub("δ", number);
-            let held = format!("(later (some (λ (δ : GName). ‵ ({own}) ⊛ {again})))");
-            at.open(format!("use2 W {held} {lends} $ await ! tt $ pick ! (λ {delta}. split ! $"));
-            at.turn(&[plane(number), token(number)], &[held_as(number), back(number)]);
-        }
-
-        at.note("what the callee asks is put together");
+    /// What the step asks is put together: what lives, and what its arguments own.
+    fn hands(&self, at: &mut Context) {
         at.nothing(ALIVE);
         (0..PLANES.len()).rev().for_each(|number| at.join("join", lent_for(number), ALIVE));
         at.line();
         let structs = joined(self.stepped().into_iter().rev(), " ", |param| param.made(param.name));
         let element = "owned ! R (Is R) (LL.makes T.the-type T′.the-plain 𝓤 H A) (elem (n .0)) _ g $ fjoin ! $";
+        let total = number_made("(total (n .0))", "sum-fits (n .0) (n .1)");
         at.turn(&[], &[OWNED]);
-        at.say(format!("nothing ! $ {element} {} {structs}", number_made("i", "i-fits")));
+        at.say(format!("nothing ! $ {total} {element} {} {structs}", number_made("i", "i-fits")));
         at.line();
-        (0..PLANES.len()).rev().for_each(|number| at.join("fjoin", held_as(number), OWNED));
+        (0..PLANES.len()).rev().for_each(|number| at.join("fjoin", lent_again(number), OWNED));
         at.front(&[ALIVE, OWNED]);
-        let bound = format!("{} {} (n .0)", subs("ν", 0..PLANES.len()), subs("δ", 0..PLANES.len()));
         at.line();
+        let bound = step_bound();
         at.say(format!("use2 W (raw (Stepped K 𝓤 H A .pre (to-step {bound}))) (goes-step {bound} fine) $"));
         at.turn(&[ALIVE, OWNED], &[PRE]);
-        let operands = at.operands(&self.step_locals());
+    }
+
+    /// The step is called, and returns.
+    fn steps_on(&self, at: &mut Context) {
+        let (bound, operands) = (step_bound(), at.operands(&self.step_locals()));
         at.open(format!(
             "calls-at ! (fmOf 𝓤 H (W .laws) 𝓣) (Stepped K 𝓤 H A) known (to-step {bound}) {operands} (λ w."
         ));
-        let held = format!("({} ⊛ ‵ (unit .own z (w ∷ []))) ⊛ raw (Ensured {bound} z)", step_alive());
-        at.open(format!("use1 W (later (some (λ (z : Unit {{0}}). {held}))) (id⊢ 𝓤 _) $ await ! tt $ pick ! (λ z."));
-        let fact = ("fact", 0);
+        let held = format!("({} ⊛ ‵ (usize .own z (w ∷ []))) ⊛ raw (Ensured {bound} z)", step_alive());
+        at.open(format!("use1 W (later (some (λ (z : ℕ). {held}))) (id⊢ 𝓤 _) $ await ! tt $ pick ! (λ z."));
         at.turn(&[PRE], &[RETURNED, ENSURED]);
-        at.say("split ! $");
-        at.front(&[ENSURED]);
-        let lasts = format!("‵ (Last {bound} zs) ⊛ raw (fact 𝓤 (Said {bound} zs))");
-        at.open(format!("use1 W (some (λ (zs : Lasts {bound}). {lasts})) (id⊢ 𝓤 _) $ pick ! (λ zs."));
-        at.turn(&[ENSURED], &[OWNED, fact]);
-        at.line();
-        at.say("split ! $");
-        at.front(&[fact]);
-        at.turn(&[fact], &[]);
-        at.open(format!("heard ! (Said {bound} zs) (λ ez."));
-        for (number, field) in PLANES.iter().enumerate() {
-            let (one, equal) = (("one", number), ("equal", number));
-            at.front(&[OWNED]);
-            at.split("fsplit", OWNED, [one, OWNED]);
-            at.split("fsplit", one, [last(number), equal]);
-            at.front(&[equal]);
-            at.turn(&[equal], &[]);
-            at.open(format!("feqL ! (λ l{field}."));
-        }
+    }
+
+    /// The new total stands in the place of the old.
+    fn totals(&self, at: &mut Context) {
         at.front(&[RETURNED]);
         at.split("split", RETURNED, [ALIVE, RESULT]);
         at.front(&[RESULT]);
-        at.turn(&[RESULT], &[]);
-        at.open("feqL ! (λ eu.");
-        let typed = "(subst (λ (y : Val). Holds (hasTy tyUnit y) × WT y) (sym (ap only eu)) (tt, tt))";
-        at.say(format!("land ! {} $", at.init(self.unit, typed)));
-
-        at.note("the lifetimes are ended, and the planes come back at their last lists");
-        for (number, field) in PLANES.iter().enumerate() {
-            let [now, same] = ["after", "same"].map(|what| format!("({what} (n .0) .{field})"));
-            let (ended, after) = (("ended", number), format!("({})", component("zs", number)));
-            at.front(&[ALIVE]);
-            at.line();
-            at.say("split ! $ lft-end ! tt $");
-            at.turn(&[ALIVE], &[ended, ALIVE]);
-            at.front(&[ended, back(number), last(number)]);
-            let got =
-                format!("(later (‵ ({}) ⊛ ‵ (flft {} {})))", owns(number, &after), sub("κ", number), sub("q", number));
-            let length = format!("{} (sym {same})", at_length(number, &now));
-            let comes = format!(
-                "comes-at {} {length} {} {after} {} l{field}",
-                borrow(number),
-                sub("δ", number),
-                sub("room", number)
-            );
-            at.say(format!("use3 W {got} ({comes}) $ await ! tt $ split ! $"));
-            at.turn(&[ended, back(number), last(number)], &[plane(number), token(number)]);
-            let equal =
-                format!("(ap (λ (p : Planes). p .{field}) (ez ∙ one-step K lay cfg ms st al p₀ (r .from) (n .0)))");
-            at.say(format!(
-                "rewrite ! {} (λ (l′ : List ℕ). ‵ ({})) {equal} refl $",
-                at.place(plane(number)),
-                owns(number, "l′")
-            ));
-        }
-
-        at.note("the next turn");
-        let fits = "record { fits = next-fits }";
-        let (place, index) = (at.place((CELL, self.index)), at.var(self.index));
-        at.say(format!(
-            "assigns-last ! (bin ! {index} (lit ! tt) ({fits})) (from ! (stop !)) (store ! {place} refl (tt, {fits})) $"
-        ));
-        self.rewrites(&mut at, self.index, "j : ℕ", "(vint w64 j)", "(add-assoc (r .from) (n .0) 1)");
-        (self.test..self.count).for_each(|local| at.forget(local));
-        at.drop(OWNED);
-        at.drop(ALIVE);
-        at.front(&self.held());
-        assert!(
-            at.held() == Context::new(self.held().into_iter().chain(locals(self.count))).held(),
-            "as before the turn"
-        );
-        at.close("again ! Nearer At n next nearer");
-        at.filled(10, WIDTH)
+        at.open("peeks ! usize (Is usize) (shows 𝓤 H A usize) z (w ∷ []) (λ z-is.");
+        at.drop(RESULT);
+        let typed = "(uint-lawful 𝓤 H A W w64 .typed z _ z-is .0)";
+        at.say(format!("land ! {} $", at.store(self.total, typed)));
+        let counted = "ap (vint w64) (one-total K lay cfg ms st al p₀ (r .from) (n .0) z (ez .smoothed))";
+        let equal = format!("(ap only (uint-tells w64 z _ z-is) ∙ {counted})");
+        self.rewrites(at, self.total, "v : Val", "v", &equal);
     }
 
     /// The turn that leaves the loop, and the rest of the body.
@@ -403,19 +415,22 @@ impl Walk {
         let mut at = Context::new(self.held().into_iter().chain(locals(self.count)));
         self.tests(&mut at, "leaves-loop");
         at.say("exec ! C Λ En t-8 (atRet En Post) $");
-        let typed = "(EL.lawful N.the-type N′.the-laws 𝓤 H A W tt .typed (r .answer) _ isA .0)";
-        let answer = format!("(of-opd ! {}) {}", at.field(self.batch, 0), at.init(0, typed));
-        at.say(format!("assigns ! {answer} $ returns ! {} $", at.look(0)));
+        COUNTED.answers(&mut at, &self.counted_locals(), "x-is");
+        at.line();
+        let typed = "(EL.lawful N.the-type N′.the-laws 𝓤 H A W tt .typed x _ x-is .0)";
+        at.say(format!("land ! {} $ returns ! {} $", at.init(0, typed), at.look(0)));
         (0..=self.test).for_each(|local| at.forget(local));
         (0..self.count).for_each(|local| at.free(local));
+        at.close("free0 ! $ by ! (exits (n .0) whole-done x w ex)");
+        at.turn(&[RESULT], &[]);
         assert!(at.held() == self.held(), "what is left is what the exit asks");
-        at.say("free0 ! $ by ! (exits (n .0) whole-done)");
         at.filled(10, WIDTH)
     }
 
     /// From the judge's return to the loop: what the parameters own is taken apart.
     fn after_judge(&self) -> String {
         let mut at = Context::new(locals(self.count).into_iter().chain([ALIVE, OWNED]));
+        at.assign("(of-opd ! (lit ! tt))", self.total, "(tt, record { fits = zero-fits })");
         at.assign(&format!("(of-opd ! {})", at.field(self.batch, 1)), self.index, "(tt, record { fits = from-fits })");
         let (whole, place, rest, reserve) =
             (("whole list", 0), ("list's place", 0), ("list's rest", 0), ("reserve", 0));
@@ -442,6 +457,8 @@ impl Walk {
             let place = at.place(plane(number));
             at.say(format!("rewrite ! {place} (λ (l : List ℕ). ‵ ({})) {equal} refl $", owns(number, "l")));
         }
+        let none = "(no-total K lay cfg ms st al p₀ (r .from))";
+        self.rewrites(&mut at, self.total, "s : ℕ", "(vint w64 s)", none);
         self.rewrites(&mut at, self.index, "j : ℕ", "(vint w64 j)", "(sym (add-zero (r .from)))");
         at.say("looped");
         at.filled(10, WIDTH)
@@ -459,30 +476,27 @@ impl Walk {
             at.line();
         }
         JUDGE.calls(&mut at, &self.judge_locals(), self.batch);
-        at.close(&format!("by ! (after-judge r e (spelled r w is) 𝓣 known-step {places} .prf)"));
+        at.close(&format!("by ! (after-judge r e (spelled r w is) 𝓣 known-step known-counted {places} .prf)"));
         at.text(8)
     }
 
     // ---- the text
 
-    /// The MIR and the contracts.
+    /// The MIR.
     fn code(&self) -> Values {
         let sets = joined(self.slices(), " (", |slice| {
             format!("set {} (rvOpd (part {} 1))", self.length(slice), slice.place + 1)
         });
         let types: Vec<_> = self.types();
-        let at = |place| component("a", place);
-        // the step has the structs after the planes, then the macroblock and its record
-        let after_structs = PLANES.len() + self.stepped().len();
         vec![
             ("mir", mir::names(&self.params)),
             ("params", self.params.len().to_string()),
             ("batch", self.batch.to_string()),
+            ("total", self.total.to_string()),
             ("index", self.index.to_string()),
             ("lengths", self.lengths.to_string()),
             ("last_length", (self.test - 1).to_string()),
             ("test", self.test.to_string()),
-            ("unit", self.unit.to_string()),
             ("offset", self.offset.to_string()),
             ("pointer", self.pointer.to_string()),
             ("list", self.list.to_string()),
@@ -491,9 +505,19 @@ impl Walk {
             ("lends", mir::lends(&self.params, self.lent)),
             ("step_vars", mir::operands(&self.step_locals())),
             ("judge_vars", mir::operands(&self.judge_locals())),
+            ("counted_vars", mir::operands(&self.counted_locals())),
             ("sets_lengths", sets),
             ("types", joined(&types, " ", |ty| parenthesized(ty))),
             ("env", list(types.iter().enumerate().map(|(local, ty)| format!("({ty}, {})", sub("l", local))))),
+        ]
+    }
+
+    /// What the contracts name of the arguments.
+    fn contracts(&self) -> Values {
+        let at = |place| component("a", place);
+        // the step has the structs after the planes, then the macroblock, its record and the total
+        let after_structs = PLANES.len() + self.stepped().len();
+        vec![
             ("at_y", at(0)),
             ("at_u", at(1)),
             ("at_v", at(2)),
@@ -505,23 +529,17 @@ impl Walk {
             ("step_config", at(after_structs - 1)),
             ("step_place", at(after_structs)),
             ("step_record", at(after_structs + 1)),
+            ("step_total", at(after_structs + 2)),
         ]
     }
 
-    /// The parameters, and what the two callees are passed.
+    /// The parameters, and what the judge is passed.
     fn passed(&self) -> Values {
         let planes = || 0..PLANES.len();
         let each = |text: fn(&Param) -> String| tuple(self.params.iter().map(text));
         let binder = |number| {
             let [b, o, gamma, y] = ["b", "o", "γ", "y"].map(|letter| sub(letter, number));
             format!("({b} {o} : ℕ) ({gamma} : GName) ({y} : List ℕ)")
-        };
-        let plane_text = |number| {
-            let [b, o, x, y, s] = ["b", "o", "x", "y", "s"].map(|letter| sub(letter, number));
-            let reference = format!("record {{ ptr = ({b}, {o}); name = δ; now = l }}");
-            let reference = format!("  abbrev {x} : GName → List ℕ → RefT (List ℕ)\n  {x} δ l = {reference}\n");
-            let value = format!("  abbrev {s} : Val\n  {s} = sliceVal ({b}, {o}) (length {y})\n");
-            format!("{reference}\n{value}\n")
         };
         let known = |param: &Param| match param.kind {
             Kept => format!("({} : Room u8 (length {}))", param.witness, param.name),
@@ -536,17 +554,6 @@ impl Walk {
         let value_of = |(param, value): &(&Param, String)| {
             if param.kind.is_slice() { format!("vint w64 ({value}) ∷ []") } else { format!("{} ∷ []", param.value) }
         };
-        let lent_row = |number: usize| self.params[number].row_at(&format!("({} ∷ [])", sub("ν", number)));
-        let handed =
-            planes().map(|number| format!("{} {} (after n .{})", sub("x", number), sub("δ", number), PLANES[number]));
-        let handed = handed.chain(self.stepped().into_iter().map(|param| param.name.into()));
-        let handed = handed.chain(["place-of n", "elem n"].map(String::from));
-        let handed_at = planes().map(|number| sub("s", number));
-        let handed_at = handed_at.chain(self.stepped().into_iter().map(|param| param.value.clone()));
-        let handed_at = handed_at.chain(["vint w64 (place-of n)", "mach (elem n)"].map(String::from));
-        let handed_rows = planes().map(lent_row).chain(self.stepped().into_iter().map(Param::row));
-        let handed_rows = handed_rows.chain(["usize", "R"].map(String::from));
-        let lasts = planes().map(|_| "List ℕ").chain((0..self.stepped().len() + 2).map(|_| "Unit {0}"));
         let rows = list(self.params.iter().map(Param::row));
         let judged = self.judged();
         vec![
@@ -554,7 +561,7 @@ impl Walk {
             ("plane_binders", joined(planes(), " ", binder)),
             ("value_binders", joined(self.plain(), " ", |param| format!("({} : {})", param.name, param.ty()))),
             ("known", joined(self.slices().chain(self.plain()), " ", known)),
-            ("planes", joined(planes(), "", plane_text)),
+            ("planes", joined(planes(), "", names)),
             ("firsts", subs("y", planes())),
             ("Arg", product(self.params.iter().map(Param::ty))),
             ("a", tuple(self.params.iter().map(named))),
@@ -564,6 +571,25 @@ impl Walk {
             ("asked_at", tuple(judged.iter().map(value_of))),
             ("entered", format!("{} ∷ ‵ (owns ({rows}) a at) ∷ []", alive(self.tokens()))),
             ("list_kappa", sub("κ", self.list_lifetime)),
+        ]
+    }
+
+    /// What the step is passed after n steps.
+    fn handed(&self) -> Values {
+        let planes = || 0..PLANES.len();
+        let lent_row = |number: usize| self.params[number].row_at(&format!("({} ∷ [])", sub("ν", number)));
+        let handed =
+            planes().map(|number| format!("{} {} (after n .{})", sub("x", number), sub("δ", number), PLANES[number]));
+        let handed = handed.chain(self.stepped().into_iter().map(|param| param.name.into()));
+        let handed = handed.chain(["place-of n", "elem n", "total n"].map(String::from));
+        let handed_at = planes().map(|number| sub("s", number));
+        let handed_at = handed_at.chain(self.stepped().into_iter().map(|param| param.value.clone()));
+        let of_step = ["vint w64 (place-of n)", "mach (elem n)", "vint w64 (total n)"];
+        let handed_at = handed_at.chain(of_step.map(String::from));
+        let handed_rows = planes().map(lent_row).chain(self.stepped().into_iter().map(Param::row));
+        let handed_rows = handed_rows.chain(["usize", "R", "usize"].map(String::from));
+        let lasts = planes().map(|_| "List ℕ").chain((0..self.stepped().len() + of_step.len()).map(|_| "Unit {0}"));
+        vec![
             ("nus", subs("ν", planes())),
             ("deltas", subs("δ", planes())),
             ("νs", tuple(planes().map(|number| format!("{} ∷ []", sub("ν", number))))),
@@ -575,6 +601,18 @@ impl Walk {
             ("planes_now", joined(PLANES, " ", |field| format!("(after (n .0) .{field})"))),
             ("Lasts", product(lasts.map(String::from).collect::<Vec<_>>())),
             ("lasts", joined(planes(), " ", |number| format!("({})", component("zs", number)))),
+        ]
+    }
+
+    /// What `counted` is passed after n steps, and what it answers.
+    fn counts() -> Values {
+        let counted = Walk::counted();
+        let passed: Vec<_> = counted.iter().map(|(param, value)| (param, parenthesized(value))).collect();
+        vec![
+            ("summed", tuple(counted.iter().map(|(_, value)| value.clone()))),
+            ("summed_at", tuple(counted.iter().map(|(param, _)| format!("{} ∷ []", param.value)))),
+            ("goes_count", indented(&asks(&passed), 2)),
+            ("answer", COUNTED.callee.owns()),
         ]
     }
 
@@ -596,7 +634,7 @@ impl Walk {
             ("held", self.held_text("n")),
             ("exits", self.exits()),
             ("places", subs("l", 0..self.count)),
-            ("cells", self.cells(|local| self.value(local, Some("(place-of n)")))),
+            ("cells", self.cells(|local| self.value(local, Some("n")))),
             ("held_at", self.held_text("(n .0)")),
             ("more", self.more()),
             ("over", self.over()),
@@ -611,6 +649,15 @@ impl Walk {
             ("witnesses", joined(self.slices().chain(self.plain()), " ", Param::witnessed)),
         ]
     }
+}
+
+/// The names of the reference to a plane and of its machine value.
+fn names(number: usize) -> String {
+    let [b, o, x, y, s] = ["b", "o", "x", "y", "s"].map(|letter| sub(letter, number));
+    let reference = format!("record {{ ptr = ({b}, {o}); name = δ; now = l }}");
+    let reference = format!("  abbrev {x} : GName → List ℕ → RefT (List ℕ)\n  {x} δ l = {reference}\n");
+    let value = format!("  abbrev {s} : Val\n  {s} = sliceVal ({b}, {o}) (length {y})\n");
+    format!("{reference}\n{value}\n")
 }
 
 /// What the parameter of a plane owns, at its first name and lifetime and this list.
@@ -633,6 +680,74 @@ fn at_length(number: usize, list: &str) -> String {
     format!("𝓤 H A W (named {number}) (named {number}) {list} (length {})", sub("y", number))
 }
 
+/// What the lemmas on the call of the step are applied to.
+fn step_bound() -> String {
+    format!("{} {} (n .0)", subs("ν", 0..PLANES.len()), subs("δ", 0..PLANES.len()))
+}
+
+/// A plane is lent again, for a lifetime of the call.
+fn lends_again(at: &mut Context, number: usize) {
+    let [now, same] = ["after", "same"].map(|what| format!("({what} (n .0) .{})", PLANES[number]));
+    at.turn(&[], &[lent_for(number)]);
+    at.open(format!("lft-new ! tt (λ {}.", sub("ν", number)));
+    at.front(&[plane(number), token(number)]);
+    let lifetime = format!("({} ∷ [])", sub("ν", number));
+    let own = owns_as(number, &lifetime, "δ", &now);
+    let borrow = borrow(number);
+    let again = format!("‵ (LentAgain {borrow} δ {now})");
+    let lends = format!("(lends-at {borrow} {} (sym {same}))", at_length(number, &now));
+    let delta = sub("δ", number);
+    let held = format!("(later (some (λ (δ : GName). ‵ ({own}) ⊛ {again})))");
+    at.open(format!("use2 W {held} {lends} $ await ! tt $ pick ! (λ {delta}. split ! $"));
+    at.turn(&[plane(number), token(number)], &[lent_again(number), back(number)]);
+}
+
+/// What the step ensures is known, at some last lists of the planes.
+fn hears_step(at: &mut Context) {
+    let (bound, fact) = (step_bound(), ("fact", 0));
+    at.say("split ! $");
+    at.front(&[ENSURED]);
+    let lasts = format!("‵ (Last {bound} zs) ⊛ raw (fact 𝓤 (Said {bound} z zs))");
+    at.open(format!("use1 W (some (λ (zs : Lasts {bound}). {lasts})) (id⊢ 𝓤 _) $ pick ! (λ zs."));
+    at.turn(&[ENSURED], &[OWNED, fact]);
+    at.line();
+    at.say("split ! $");
+    at.front(&[fact]);
+    at.turn(&[fact], &[]);
+    at.open(format!("heard ! (Said {bound} z zs) (λ ez."));
+    for (number, field) in PLANES.iter().enumerate() {
+        let (one, equal) = (("one", number), ("equal", number));
+        at.front(&[OWNED]);
+        at.split("fsplit", OWNED, [one, OWNED]);
+        at.split("fsplit", one, [last(number), equal]);
+        at.front(&[equal]);
+        at.turn(&[equal], &[]);
+        at.open(format!("feqL ! (λ l{field}."));
+    }
+}
+
+/// The lifetime of a plane's loan is ended, and the plane comes back at its last list.
+fn comes_back(at: &mut Context, number: usize) {
+    let field = PLANES[number];
+    let [now, same] = ["after", "same"].map(|what| format!("({what} (n .0) .{field})"));
+    let (ended, after) = (("ended", number), format!("({})", component("zs", number)));
+    at.front(&[ALIVE]);
+    at.line();
+    at.say("split ! $ lft-end ! tt $");
+    at.turn(&[ALIVE], &[ended, ALIVE]);
+    at.front(&[ended, back(number), last(number)]);
+    let [kappa, q, delta, room] = ["κ", "q", "δ", "room"].map(|letter| sub(letter, number));
+    let got = format!("(later (‵ ({}) ⊛ ‵ (flft {kappa} {q})))", owns(number, &after));
+    let length = format!("{} (sym {same})", at_length(number, &now));
+    let comes = format!("comes-at {} {length} {delta} {after} {room} l{field}", borrow(number));
+    at.say(format!("use3 W {got} ({comes}) $ await ! tt $ split ! $"));
+    at.turn(&[ended, back(number), last(number)], &[plane(number), token(number)]);
+    let step = "one-step K lay cfg ms st al p₀ (r .from) (n .0)";
+    let equal = format!("(ap (λ (p : Planes). p .{field}) (ez .planes ∙ {step}))");
+    let (place, own) = (at.place(plane(number)), owns(number, "l′"));
+    at.say(format!("rewrite ! {place} (λ (l′ : List ℕ). ‵ ({own})) {equal} refl $"));
+}
+
 /// What lives during the call of the step.
 fn step_alive() -> String {
     alive((0..PLANES.len()).map(|number| (format!("({} ∷ [])", sub("ν", number)), String::from("fullShare"))))
@@ -642,7 +757,9 @@ fn step_alive() -> String {
 pub fn proof() -> (Proof, usize, usize) {
     let walk = Walk::new();
     let of_params = [lifetime_values(&walk.params), row_values(&walk.params)].concat();
-    let values = [of_params, walk.code(), walk.passed(), walk.steps()].concat();
+    let code = [walk.code(), walk.contracts()].concat();
+    let passed = [walk.passed(), walk.handed(), Walk::counts()].concat();
+    let values = [of_params, code, passed, walk.steps()].concat();
     let proof = Proof { path: String::from("crates/frame/proofs/RecordWalk.antt"), text: fill(TEMPLATE, &values) };
     (proof, walk.count, walk.params.len())
 }

@@ -1,5 +1,6 @@
 //! Runs the comparisons on a wrong library until one catches it.
 
+use crate::faults::Wrong;
 use crate::library::Built;
 use crate::shims::CHOICE;
 use std::io::{BufRead, BufReader};
@@ -27,12 +28,19 @@ const MODULES: [(&str, &[&str]); 18] = [
     ("vp8lf_full_search", &["stills", "vast"]),
 ];
 
+/// The module to try first on faults of the positions smoothed.
+const SMOOTHED: &str = "smoothed";
+
 const SOAK: [&str; 4] = ["--soak", "10", "--seed", "6386"];
 
 /// What caught a wrong library, or `None` if nothing did.
-pub fn caught_by(built: &Built, function: &str, number: usize) -> Option<String> {
+pub fn caught_by(built: &Built, wrong: &Wrong) -> Option<String> {
+    let Wrong { number, function, what, .. } = wrong;
+    let number = *number;
     let first = MODULES.iter().find(|(prefix, _)| function.starts_with(prefix)).map_or(&[][..], |(_, modules)| modules);
-    let quick = first.iter().find_map(|module| compare(built, &["--only", module], number));
+    let smoothed = what.contains("positions").then_some(SMOOTHED);
+    let mut modules = smoothed.iter().chain(first);
+    let quick = modules.find_map(|module| compare(built, &["--only", module], number));
     quick.or_else(|| header_test(built, number)).or_else(|| compare(built, &[], number)).or_else(|| soak(built, number))
 }
 

@@ -36,7 +36,7 @@ fn tried(part: &str) -> Result<ExitCode, String> {
     println!("wrong library | caught by");
     let (mut count, mut passed) = (0, 0);
     for wrong in all.iter().filter(|wrong| wrong.function.contains(part) || wrong.what.contains(part)) {
-        let caught = checks::caught_by(&built, &wrong.function, wrong.number);
+        let caught = checks::caught_by(&built, wrong);
         count += 1;
         passed += caught.is_none() as usize;
         let faults::Wrong { function, kind, what, .. } = wrong;

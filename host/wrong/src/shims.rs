@@ -10,24 +10,33 @@ pub const RENAMED: &str = "real_";
 /// The variable that chooses a wrong library by its number. Without it the library is right.
 pub const CHOICE: &str = "VP8LF_WRONG";
 
+/// C over the functions of the library: `keep`, `step` and `drop`.
+const WALK: &str = include_str!("../walk.c");
+
 pub fn text(functions: &[Function], all: &[Wrong]) -> String {
+    let declared: String = functions.iter().map(|function| format!("{};\n", head(function, RENAMED))).collect();
     let mut text = format!(
         "#include \"vp8_loop_filter.h\"\n#include <stdlib.h>\n\nstatic int wrong;\n\n\
          __attribute__((constructor)) static void choose(void)\n{{\n    const char *number = getenv(\"{CHOICE}\");\n    \
-         wrong = number ? atoi(number) : 0;\n}}\n{COPY}"
+         wrong = number ? atoi(number) : 0;\n}}\n{COPY}\n{declared}\n{WALK}"
     );
     for function in functions {
         let of_it = |wrong: &&Wrong| wrong.function == function.name;
-        let searches = function.parameters.iter().any(|parameter| parameter.name == "scratch_y");
+        let has = |name: &str| function.parameters.iter().any(|parameter| parameter.name == name);
         let pass = function.name.strip_prefix("vp8lf_loop_").map(|pass| format!("vp8lf_{pass}"));
-        text += &if searches { tried(functions, function) } else { String::new() };
+        text += &if has("scratch_y") { tried(functions, function) } else { String::new() };
+        text += &if has("smoothed") { walked(functions, function) } else { String::new() };
         text += &pass.as_ref().map_or(String::new(), |pass| beside(functions, pass));
         text += &shim(function, all.iter().filter(of_it));
-        text += if searches { "#undef TRY\n#undef SEARCH\n" } else { "" };
+        text += if has("scratch_y") { "#undef TRY\n#undef SEARCH\n" } else { "" };
+        text += if has("smoothed") { NO_WALK } else { "" };
         text += if pass.is_some() { "#undef PASS\n" } else { "" };
     }
     text
 }
+
+/// Takes back what [`walked`] defines.
+const NO_WALK: &str = "#undef KEPT\n#undef TOLD\n#undef WALKED_UNLESS\n#undef WALKED\n#undef WHOLE\n";
 
 /// Copies the grid of a plane.
 const COPY: &str = "
@@ -55,6 +64,36 @@ fn beside(functions: &[Function], pass: &str) -> String {
     format!("\n#define PASS answer = {}\n", call(functions, pass, &[]))
 }
 
+/// What the faults of a pass or of a frame call may use, each in place of `CALL`: `WALKED(told)` tells a number of `w`, the
+/// walk over what the call does, for the positions smoothed; `WALKED_UNLESS(off, told)` has every level 0 if `off`, as a
+/// frame call has at header level 0; `WHOLE` tells those of the whole frame.
+fn walked(functions: &[Function], function: &Function) -> String {
+    let inter = function.parameters.iter().any(|parameter| parameter.name == "references");
+    let level = if inter { "vp8lf_calculate_mb_filter_level_inter" } else { "vp8lf_calculate_mb_filter_level" };
+    let entry = [
+        ("segment", "segments[m]"),
+        ("mode", "modes[m]"),
+        ("reference", "references[m]"),
+        ("inter_mode", "inter_modes[m]"),
+        ("level", "&level_of_m"),
+    ];
+    let level = call(functions, level, &entry);
+    let planes = [("y", "w.now[0]"), ("u", "w.now[1]"), ("v", "w.now[2]"), ("start", "0"), ("allowance", "SIZE_MAX")];
+    let out = [("count", "&(size_t){0}"), ("next", "&(size_t){0}"), ("smoothed", "&whole")];
+    let whole = call(functions, &function.name, &[&planes[..], &out].concat());
+    let off = if function.name.starts_with("vp8lf_loop_") { "loop_filter_level == 0" } else { "false" };
+    format!(
+        "\n#define KEPT struct walk w = keep(simple, y, y_len, u, u_len, v, v_len, y_stride, uv_stride)\n\
+         #define TOLD(told) if (answer == 0 && w.kept) *smoothed = (told); drop(&w)\n\
+         #define WALKED_UNLESS(off, told) KEPT; CALL; \\\n    \
+         for (size_t m = answer == 0 && w.kept ? *next - *count : SIZE_MAX; answer == 0 && m < *next; m++) {{ \\\n    \
+         uint8_t level_of_m = 0; if (!(off)) {level}; \\\n    \
+         step(&w, m, mb_cols, level_of_m, modes[m] == 4 || flags[m] != 0, sharpness_level, key_frame); }} TOLD(told)\n\
+         #define WALKED(told) WALKED_UNLESS({off}, told)\n\
+         #define WHOLE size_t whole = 0; KEPT; if (w.kept) {whole}; CALL; TOLD(whole)\n"
+    )
+}
+
 /// What the faults of a search may use. `TRY(level, sharpness)` leaves in scratch what the pass with these leaves of the
 /// reconstruction, for level 0 a copy of it, and is the error sum; `SEARCH` calls the search for level and sharpness.
 fn tried(functions: &[Function], function: &Function) -> String {
@@ -72,12 +111,18 @@ fn tried(functions: &[Function], function: &Function) -> String {
         ("v_len", "scratch_v_len"),
     ];
     let pair = [("loop_filter_level", "(try_level)"), ("sharpness_level", "(try_sharpness)")];
-    let whole = [("start", "0"), ("allowance", "SIZE_MAX"), ("count", "&tried_count"), ("next", "&tried_next")];
+    let whole = [
+        ("start", "0"),
+        ("allowance", "SIZE_MAX"),
+        ("count", "&tried_count"),
+        ("next", "&tried_next"),
+        ("smoothed", "&tried_smoothed"),
+    ];
     let pass = call(functions, pass, &[&SCRATCH[..], &pair, &whole].concat());
     let sum = call(functions, "vp8lf_reconstruction_ssd", &[&SCRATCH[..], &[("sum", "&tried_sum")]].concat());
     let search = call(functions, search, &[("count", "&(size_t){0}")]);
     format!(
-        "\n#define TRY(try_level, try_sharpness) ({{ size_t tried_count, tried_next; uint64_t tried_sum = 0; \\\n    \
+        "\n#define TRY(try_level, try_sharpness) ({{ size_t tried_count, tried_next, tried_smoothed; uint64_t tried_sum = 0; \\\n    \
          copy(scratch_y, y, 16 * mb_cols, 16 * mb_rows, y_stride); \\\n    \
          copy(scratch_u, u, 8 * mb_cols, 8 * mb_rows, uv_stride); \\\n    \
          copy(scratch_v, v, 8 * mb_cols, 8 * mb_rows, uv_stride); \\\n    \
@@ -87,10 +132,8 @@ fn tried(functions: &[Function], function: &Function) -> String {
 
 /// One function, with a case for each of its faults.
 fn shim<'a>(function: &Function, all: impl Iterator<Item = &'a Wrong>) -> String {
-    let (name, returned) = (&function.name, function.returns.unwrap_or("void"));
-    let parameters: Vec<String> = function.parameters.iter().map(|parameter| parameter.to_string()).collect();
     let arguments: Vec<&str> = function.parameters.iter().map(|parameter| parameter.name.as_str()).collect();
-    let (parameters, call) = (parameters.join(", "), format!("{RENAMED}{name}({})", arguments.join(", ")));
+    let call = format!("{RENAMED}{}({})", function.name, arguments.join(", "));
     let (answer, call, end) = match function.returns {
         Some(number) => (format!("    {number} answer;\n"), format!("answer = {call}"), "return answer;"),
         None => (String::new(), call, "return;"),
@@ -99,9 +142,16 @@ fn shim<'a>(function: &Function, all: impl Iterator<Item = &'a Wrong>) -> String
         |wrong: &Wrong| format!("    case {}: /* {} */\n    {{ {} {end} }}\n", wrong.number, wrong.what, wrong.body);
     let cases: String = all.map(case).collect();
     format!(
-        "\n{returned} {RENAMED}{name}({parameters});\n#define CALL {call}\n{returned} {name}({parameters})\n{{\n{answer}    \
-         switch (wrong) {{\n{cases}    default:\n    {{ CALL; {end} }}\n    }}\n}}\n#undef CALL\n"
+        "\n#define CALL {call}\n{}\n{{\n{answer}    switch (wrong) {{\n{cases}    default:\n    {{ CALL; {end} }}\n    \
+         }}\n}}\n#undef CALL\n",
+        head(function, "")
     )
+}
+
+/// A function with its parameters, this before its name.
+fn head(function: &Function, before: &str) -> String {
+    let parameters: Vec<String> = function.parameters.iter().map(|parameter| parameter.to_string()).collect();
+    format!("{} {before}{}({})", function.returns.unwrap_or("void"), function.name, parameters.join(", "))
 }
 
 /// The lines by which `objcopy` renames the functions of the library.

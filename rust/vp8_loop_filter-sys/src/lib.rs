@@ -60,18 +60,20 @@ unsafe extern "C" {
         adjustment: *mut i32,
     ) -> u8;
 
-    /// The simple filter on a window of four bytes. Refusal 4.
+    /// The simple filter on a window of four bytes, and whether its test passed. Refusal 4.
     ///
     /// # Safety
     ///
-    /// `seg` points to `seg_len` bytes that may be read and written.
-    pub fn vp8lf_simple_segment(edge_limit: u8, seg: *mut u8, seg_len: usize, base: usize) -> u8;
+    /// `seg` points to `seg_len` bytes that may be read and written. `passed` points to one byte that may be written,
+    /// outside of them.
+    pub fn vp8lf_simple_segment(edge_limit: u8, seg: *mut u8, seg_len: usize, base: usize, passed: *mut u8) -> u8;
 
-    /// The normal filter of an inner edge on a window of eight bytes. Refusal 4.
+    /// The normal filter of an inner edge on a window of eight bytes, and whether its test passed. Refusal 4.
     ///
     /// # Safety
     ///
-    /// `seg` points to `seg_len` bytes that may be read and written.
+    /// `seg` points to `seg_len` bytes that may be read and written. `passed` points to one byte that may be written,
+    /// outside of them.
     pub fn vp8lf_subblock_filter(
         hev_threshold: u8,
         interior_limit: u8,
@@ -79,13 +81,15 @@ unsafe extern "C" {
         seg: *mut u8,
         seg_len: usize,
         base: usize,
+        passed: *mut u8,
     ) -> u8;
 
-    /// The normal filter of a macroblock edge on a window of eight bytes. Refusal 4.
+    /// The normal filter of a macroblock edge on a window of eight bytes, and whether its test passed. Refusal 4.
     ///
     /// # Safety
     ///
-    /// `seg` points to `seg_len` bytes that may be read and written.
+    /// `seg` points to `seg_len` bytes that may be read and written. `passed` points to one byte that may be written,
+    /// outside of them.
     pub fn vp8lf_mb_filter(
         hev_threshold: u8,
         interior_limit: u8,
@@ -93,6 +97,7 @@ unsafe extern "C" {
         seg: *mut u8,
         seg_len: usize,
         base: usize,
+        passed: *mut u8,
     ) -> u8;
 
     /// The level of a macroblock of a key frame. Refusal 6.
@@ -175,7 +180,7 @@ unsafe extern "C" {
     ///
     /// # Safety
     ///
-    /// As [the crate says](crate#safety) of planes that are written, of lists, and of `count` and `next`.
+    /// As [the crate says](crate#safety) of planes that are written, of lists, and of the last three parameters.
     pub fn vp8lf_filter_frame(
         y: *mut u8,
         y_len: usize,
@@ -216,13 +221,14 @@ unsafe extern "C" {
         allowance: usize,
         count: *mut usize,
         next: *mut usize,
+        smoothed: *mut usize,
     ) -> u8;
 
     /// The pass of an inter frame. Refusals 1, 2, 3, 5, 6 and 7.
     ///
     /// # Safety
     ///
-    /// As [the crate says](crate#safety) of planes that are written, of lists, and of `count` and `next`.
+    /// As [the crate says](crate#safety) of planes that are written, of lists, and of the last three parameters.
     pub fn vp8lf_filter_inter_frame(
         y: *mut u8,
         y_len: usize,
@@ -267,13 +273,14 @@ unsafe extern "C" {
         allowance: usize,
         count: *mut usize,
         next: *mut usize,
+        smoothed: *mut usize,
     ) -> u8;
 
     /// The frame call of a key frame: the pass, turned off by header level 0. Refusals 1, 2, 3, 5, 6 and 7.
     ///
     /// # Safety
     ///
-    /// As [the crate says](crate#safety) of planes that are written, of lists, and of `count` and `next`.
+    /// As [the crate says](crate#safety) of planes that are written, of lists, and of the last three parameters.
     pub fn vp8lf_loop_filter_frame(
         y: *mut u8,
         y_len: usize,
@@ -314,13 +321,14 @@ unsafe extern "C" {
         allowance: usize,
         count: *mut usize,
         next: *mut usize,
+        smoothed: *mut usize,
     ) -> u8;
 
     /// The frame call of an inter frame: the pass, turned off by header level 0. Refusals 1, 2, 3, 5, 6 and 7.
     ///
     /// # Safety
     ///
-    /// As [the crate says](crate#safety) of planes that are written, of lists, and of `count` and `next`.
+    /// As [the crate says](crate#safety) of planes that are written, of lists, and of the last three parameters.
     pub fn vp8lf_loop_filter_inter_frame(
         y: *mut u8,
         y_len: usize,
@@ -365,6 +373,7 @@ unsafe extern "C" {
         allowance: usize,
         count: *mut usize,
         next: *mut usize,
+        smoothed: *mut usize,
     ) -> u8;
 
     /// How many leading rows are final once the macroblocks before `start` are done. Refusals 1 and 7.

@@ -6,10 +6,11 @@ use vp8_loop_filter::{FinalRows, FrameFilterConfig, FramePass, KeyframePlanes, M
 const COLUMNS: usize = 3;
 const ROWS: usize = 2;
 
-/// What went down the line: luma rows, and how many rows of both kinds.
+/// What went down the line: luma rows, and how many rows of both kinds. And how many positions were smoothed.
 struct Sent {
     luma: Vec<u8>,
     rows: FinalRows,
+    smoothed: usize,
 }
 
 impl Sent {
@@ -46,18 +47,22 @@ fn filter(planes: &mut KeyframePlanes, sent: &mut Sent) -> Result<(), Refusal> {
         sent.send_down(pass.planes(), pass.final_rows()?); // these rows will not change any more
     }
     // README: to here
+    sent.smoothed = pass.smoothed();
     Ok(())
 }
 
 fn main() -> ExitCode {
-    let (mut planes, mut sent) = (decoded(), Sent { luma: Vec::new(), rows: FinalRows { luma: 0, chroma: 0 } });
+    let rows = FinalRows { luma: 0, chroma: 0 };
+    let (mut planes, mut sent) = (decoded(), Sent { luma: Vec::new(), rows, smoothed: 0 });
     if let Err(refusal) = filter(&mut planes, &mut sent) {
         println!("{refusal}");
         return ExitCode::FAILURE;
     }
     let edge = &sent.luma[12..20];
-    println!("the first edge: {edge:?}");
+    println!("the first edge: {edge:?}; {} positions smoothed", sent.smoothed);
     // Figure K of the scope paper.
     let smooth = edge == [100, 101, 102, 103, 105, 106, 107, 108];
-    if smooth && sent.luma == planes.y { ExitCode::SUCCESS } else { ExitCode::FAILURE }
+    // All positions of the four left and the three top edges: 16 in luma, 8 in each chroma plane.
+    let all = sent.smoothed == 7 * (16 + 8 + 8);
+    if smooth && all && sent.luma == planes.y { ExitCode::SUCCESS } else { ExitCode::FAILURE }
 }

@@ -66,22 +66,36 @@ pub fn common_adjust(use_outer_taps: bool, seg: &mut [u8], base: usize, adjustme
     unsafe { sys::vp8lf_common_adjust(use_outer_taps, seg, len, base, adjustment) }
 }
 
-pub fn simple_segment(edge_limit: u8, seg: &mut [u8], base: usize) -> u8 {
+pub fn simple_segment(edge_limit: u8, seg: &mut [u8], base: usize, passed: &mut u8) -> u8 {
     let (seg, len) = lend_mut(seg);
-    // SAFETY: the slice's own pointer and length.
-    unsafe { sys::vp8lf_simple_segment(edge_limit, seg, len, base) }
+    // SAFETY: the slice's own pointer and length, and a reference.
+    unsafe { sys::vp8lf_simple_segment(edge_limit, seg, len, base, passed) }
 }
 
-pub fn subblock_filter(hev_threshold: u8, interior_limit: u8, edge_limit: u8, seg: &mut [u8], base: usize) -> u8 {
+pub fn subblock_filter(
+    hev_threshold: u8,
+    interior_limit: u8,
+    edge_limit: u8,
+    seg: &mut [u8],
+    base: usize,
+    passed: &mut u8,
+) -> u8 {
     let (seg, len) = lend_mut(seg);
-    // SAFETY: the slice's own pointer and length.
-    unsafe { sys::vp8lf_subblock_filter(hev_threshold, interior_limit, edge_limit, seg, len, base) }
+    // SAFETY: the slice's own pointer and length, and a reference.
+    unsafe { sys::vp8lf_subblock_filter(hev_threshold, interior_limit, edge_limit, seg, len, base, passed) }
 }
 
-pub fn mb_filter(hev_threshold: u8, interior_limit: u8, edge_limit: u8, seg: &mut [u8], base: usize) -> u8 {
+pub fn mb_filter(
+    hev_threshold: u8,
+    interior_limit: u8,
+    edge_limit: u8,
+    seg: &mut [u8],
+    base: usize,
+    passed: &mut u8,
+) -> u8 {
     let (seg, len) = lend_mut(seg);
-    // SAFETY: the slice's own pointer and length.
-    unsafe { sys::vp8lf_mb_filter(hev_threshold, interior_limit, edge_limit, seg, len, base) }
+    // SAFETY: the slice's own pointer and length, and a reference.
+    unsafe { sys::vp8lf_mb_filter(hev_threshold, interior_limit, edge_limit, seg, len, base, passed) }
 }
 
 pub fn mb_has_coeffs(coeffs: &[i16]) -> bool {
@@ -147,8 +161,8 @@ pub enum Form {
     Frame,
 }
 
-/// The inter pass if there are lists of references and inter modes, else the key pass; or the frame call of it.
-#[allow(clippy::too_many_arguments)]
+/// The inter pass if there are lists of references and inter modes, else the key pass; or the frame call of it. Its last
+/// parameters are count, next start and positions smoothed.
 pub fn filter(
     form: Form,
     planes: &mut PlanesMut<'_>,
@@ -156,8 +170,7 @@ pub fn filter(
     config: &FrameFilterConfig,
     start: usize,
     allowance: usize,
-    count: &mut usize,
-    next: &mut usize,
+    [count, next, smoothed]: [&mut usize; 3],
 ) -> u8 {
     let PlanesMut { y_stride, uv_stride, mb_cols, mb_rows, .. } = *planes;
     let [y, u, v] = [&mut *planes.y, planes.u, planes.v].map(lend_mut);
@@ -169,7 +182,7 @@ pub fn filter(
                 [
                     y.0, y.1, u.0, u.1, v.0, v.1, mb_cols, mb_rows, y_stride, uv_stride,
                     modes.0, modes.1, segments.0, segments.1, flags.0, flags.1 $(, $list.0, $list.1)*
-                    ; start, allowance, count, next
+                    ; start, allowance, count, next, smoothed
                 ]
             )
         };

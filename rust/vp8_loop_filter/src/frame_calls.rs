@@ -73,9 +73,10 @@ where
 /// let (modes, flags) = ([MacroblockModes::default(); 3], [true; 3]);
 /// let off = FrameFilterConfig::default().with_key_frame(true).with_loop_filter_level(0);
 ///
-/// assert_eq!(loop_filter_frame_from(&mut planes, &modes, &flags, &off, 0, 2)?, Done { count: 2, next: 2 });
-/// assert_eq!(loop_filter_frame_from(&mut planes, &modes, &flags, &off, 2, 2)?, Done { count: 1, next: 3 });
-/// assert_eq!(loop_filter_frame_from(&mut planes, &modes, &flags, &off, 4, 2).unwrap_err().number(), 7);
+/// let mut from = |start| loop_filter_frame_from(&mut planes, &modes, &flags, &off, start, 2);
+/// assert_eq!(from(0)?, Done { count: 2, next: 2, smoothed: 0 });
+/// assert_eq!(from(2)?, Done { count: 1, next: 3, smoothed: 0 });
+/// assert_eq!(from(4).unwrap_err().number(), 7);
 /// # Ok::<(), vp8_loop_filter::Refusal>(())
 /// ```
 pub fn loop_filter_frame_from<'a, P, M>(

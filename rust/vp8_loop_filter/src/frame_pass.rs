@@ -1,9 +1,9 @@
 //! A pass that is prepared once and halted as often as its caller likes.
 
 use crate::config::FrameFilterConfig;
-use crate::entries::{self, Form};
+use crate::entries::Form;
 use crate::macroblock::{InterFilterInfo, Lists, MacroblockModes};
-use crate::passes::{Done, FinalRows, final_rows};
+use crate::passes::{Done, FinalRows, call, final_rows};
 use crate::planes::{Planes, PlanesMut};
 use crate::refusal::{Lent, Refusal, answer};
 
@@ -37,6 +37,7 @@ use crate::refusal::{Lent, Refusal, answer};
 ///     sendable.push(pass.final_rows()?.luma);
 /// }
 /// assert_eq!(sendable, [13, 29, 48]);
+/// assert_eq!(pass.smoothed(), 128 + 160 + 160);
 /// # Ok::<(), vp8_loop_filter::Refusal>(())
 /// ```
 #[derive(Debug)]
@@ -46,6 +47,7 @@ pub struct FramePass<'a> {
     lists: Lists,
     config: FrameFilterConfig,
     next: usize,
+    smoothed: usize,
 }
 
 impl<'a> FramePass<'a> {
@@ -91,24 +93,29 @@ impl<'a> FramePass<'a> {
         lists: Lists,
         config: &FrameFilterConfig,
     ) -> Result<FramePass<'a>, Refusal> {
-        let mut pass = FramePass { form, planes, lists, config: *config, next: 0 };
+        let mut pass = FramePass { form, planes, lists, config: *config, next: 0, smoothed: 0 };
         pass.advance(0)?;
         Ok(pass)
     }
 
     /// Filters at most `allowance` macroblocks more, in raster order. A pass that was made is not refused.
     pub fn advance(&mut self, allowance: usize) -> Result<Done, Refusal> {
-        let FramePass { form, planes, lists, config, next } = self;
-        let (mut done, bytes) = (Done { count: 0, next: 0 }, lists.bytes());
-        let number = entries::filter(*form, planes, &bytes, config, *next, allowance, &mut done.count, &mut done.next);
+        let FramePass { form, planes, lists, config, next, smoothed } = self;
+        let (number, done) = call(*form, planes, lists, config, *next, allowance);
         answer(number, || Lent::from(&*planes).and_lists(&lists.lent).and_start(*next))?;
         *next = done.next;
+        *smoothed += done.smoothed;
         Ok(done)
     }
 
     /// The next macroblock to be filtered, in raster order; when all are done, their number.
     pub fn next(&self) -> usize {
         self.next
+    }
+
+    /// How many positions were smoothed so far: the sum of [`Done::smoothed`] over the calls.
+    pub fn smoothed(&self) -> usize {
+        self.smoothed
     }
 
     /// Whether all macroblocks are done.

@@ -105,8 +105,25 @@ pub fn common_adjust(use_outer_taps: bool, seg: &mut [u8], base: usize) -> Resul
 /// # Ok::<(), vp8_loop_filter::Refusal>(())
 /// ```
 pub fn simple_segment(edge_limit: u8, seg: &mut [u8], base: usize) -> Result<(), Refusal> {
-    let number = entries::simple_segment(edge_limit, seg, base);
-    answer(number, || Lent::window(4, base, seg.len()))
+    simple_segment_passed(edge_limit, seg, base).map(|_| ())
+}
+
+/// [`simple_segment`], and whether its test passed. A window whose test passes may come out as it was.
+///
+/// ```
+/// use vp8_loop_filter::simple_segment_passed;
+///
+/// let mut row = [100, 100, 108, 108];
+/// assert!(!simple_segment_passed(19, &mut row, 0)?);
+/// assert!(simple_segment_passed(20, &mut row, 0)?);
+/// assert_eq!(row, [100, 102, 106, 108]);
+/// assert!(simple_segment_passed(0, &mut [7; 4], 0)?);
+/// # Ok::<(), vp8_loop_filter::Refusal>(())
+/// ```
+pub fn simple_segment_passed(edge_limit: u8, seg: &mut [u8], base: usize) -> Result<bool, Refusal> {
+    let mut passed = 0;
+    let number = entries::simple_segment(edge_limit, seg, base, &mut passed);
+    answer(number, || Lent::window(4, base, seg.len())).map(|()| passed != 0)
 }
 
 /// The normal filter of an inner edge on the window p3 to q3 at `base`. Can be refused with 4.
@@ -117,8 +134,20 @@ pub fn subblock_filter(
     seg: &mut [u8],
     base: usize,
 ) -> Result<(), Refusal> {
-    let number = entries::subblock_filter(hev_threshold, interior_limit, edge_limit, seg, base);
-    answer(number, || Lent::window(8, base, seg.len()))
+    subblock_filter_passed(hev_threshold, interior_limit, edge_limit, seg, base).map(|_| ())
+}
+
+/// [`subblock_filter`], and whether its test passed.
+pub fn subblock_filter_passed(
+    hev_threshold: u8,
+    interior_limit: u8,
+    edge_limit: u8,
+    seg: &mut [u8],
+    base: usize,
+) -> Result<bool, Refusal> {
+    let mut passed = 0;
+    let number = entries::subblock_filter(hev_threshold, interior_limit, edge_limit, seg, base, &mut passed);
+    answer(number, || Lent::window(8, base, seg.len())).map(|()| passed != 0)
 }
 
 /// The normal filter of a macroblock edge on the window p3 to q3 at `base`. Can be refused with 4.
@@ -129,6 +158,18 @@ pub fn mb_filter(
     seg: &mut [u8],
     base: usize,
 ) -> Result<(), Refusal> {
-    let number = entries::mb_filter(hev_threshold, interior_limit, edge_limit, seg, base);
-    answer(number, || Lent::window(8, base, seg.len()))
+    mb_filter_passed(hev_threshold, interior_limit, edge_limit, seg, base).map(|_| ())
+}
+
+/// [`mb_filter`], and whether its test passed.
+pub fn mb_filter_passed(
+    hev_threshold: u8,
+    interior_limit: u8,
+    edge_limit: u8,
+    seg: &mut [u8],
+    base: usize,
+) -> Result<bool, Refusal> {
+    let mut passed = 0;
+    let number = entries::mb_filter(hev_threshold, interior_limit, edge_limit, seg, base, &mut passed);
+    answer(number, || Lent::window(8, base, seg.len())).map(|()| passed != 0)
 }

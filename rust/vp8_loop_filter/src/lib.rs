@@ -7,7 +7,8 @@
 //!   record that these two are `From`.
 //! - [`loop_filter_frame`] and [`loop_filter_inter_frame`] filter a frame as a decoder does: a header level of 0 turns the
 //!   filter off. [`filter_frame`] and [`filter_inter_frame`] are the passes of the Rust, which do not test that level.
-//!   A [`FramePass`] of either halts after some macroblocks and goes on later, and says which rows are final by then.
+//!   A [`FramePass`] of either halts after some macroblocks and goes on later, and says which rows are final by then and
+//!   how many positions were smoothed.
 //! - [`select_filter_params`] and [`select_filter_level`] choose a level for an encoder, [`full_search`] the best of all
 //!   levels and sharpness values for one that has the time, as for a still.
 //! - [`LoopFilterParams::derive`], [`calculate_mb_filter_level`] and the kernels such as [`mb_filter`] are the parts.
@@ -40,8 +41,8 @@ pub use frame_calls::{
 pub use frame_pass::FramePass;
 pub use full_search::{Best, full_search, full_search_in};
 pub use kernels::{
-    FILTER_LEVELS, LoopFilterParams, SHARPNESS_LEVELS, clamp_s8, common_adjust, interior_limits, mb_filter, s2u,
-    simple_segment, subblock_filter, u2s,
+    FILTER_LEVELS, LoopFilterParams, SHARPNESS_LEVELS, clamp_s8, common_adjust, interior_limits, mb_filter,
+    mb_filter_passed, s2u, simple_segment, simple_segment_passed, subblock_filter, subblock_filter_passed, u2s,
 };
 pub use levels::{calculate_mb_filter_level, calculate_mb_filter_level_inter, first_coeff, mb_has_coeffs};
 pub use macroblock::{InterFilterInfo, InterMode, IntraYMode, MacroblockModes, MbCoeffs, RefFrame};

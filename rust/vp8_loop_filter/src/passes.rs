@@ -14,6 +14,10 @@ pub struct Done {
     pub count: usize,
     /// The start to go on from.
     pub next: usize,
+    /// The positions smoothed: those whose test passed when their turn came, also if their samples came out as they were.
+    /// A position is one segment across an edge. It is the call's own part: over the calls of a picture the parts add up to
+    /// that of one call. At most 192 for each macroblock done, and 0 for one of level 0.
+    pub smoothed: usize,
 }
 
 /// Leading rows of samples that no macroblock still to come can reach.
@@ -110,13 +114,17 @@ where
 /// let modes = [MacroblockModes { y_mode: IntraYMode::B, segment_id: None }; 3];
 /// let config = FrameFilterConfig::default().with_key_frame(true).with_loop_filter_level(24);
 ///
-/// let (mut next, mut sendable) = (0, Vec::new());
+/// let (mut next, mut sendable, mut smoothed) = (0, Vec::new(), Vec::new());
 /// while next < 3 {
 ///     // Here the next row of macroblocks is decoded.
-///     next = filter_frame_from(&mut planes, &modes, &[false; 3], &config, next, 1)?.next;
+///     let done = filter_frame_from(&mut planes, &modes, &[false; 3], &config, next, 1)?;
+///     next = done.next;
 ///     sendable.push(final_rows(&planes, next)?.luma);
+///     smoothed.push(done.smoothed);
 /// }
 /// assert_eq!(sendable, [13, 29, 48]);
+/// // Each passes at every position of its inner edges, and from the second on of its top edge: the picture is flat.
+/// assert_eq!(smoothed, [128, 160, 160]);
 /// # Ok::<(), vp8_loop_filter::Refusal>(())
 /// ```
 pub fn filter_frame_from<'a, P, M>(
@@ -226,8 +234,21 @@ pub(crate) fn part(
     start: usize,
     allowance: usize,
 ) -> Result<Done, Refusal> {
-    let mut done = Done { count: 0, next: 0 };
-    let number =
-        entries::filter(form, &mut planes, &lists.bytes(), config, start, allowance, &mut done.count, &mut done.next);
+    let (number, done) = call(form, &mut planes, lists, config, start, allowance);
     answer(number, || Lent::from(&planes).and_lists(&lists.lent).and_start(start)).map(|()| done)
+}
+
+/// One call of the library: what it returns, and what it wrote.
+pub(crate) fn call(
+    form: Form,
+    planes: &mut PlanesMut<'_>,
+    lists: &Lists,
+    config: &FrameFilterConfig,
+    start: usize,
+    allowance: usize,
+) -> (u8, Done) {
+    let mut done = Done { count: 0, next: 0, smoothed: 0 };
+    let Done { count, next, smoothed } = &mut done;
+    let number = entries::filter(form, planes, &lists.bytes(), config, start, allowance, [count, next, smoothed]);
+    (number, done)
 }

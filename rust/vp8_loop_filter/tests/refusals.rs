@@ -73,7 +73,10 @@ fn accepted() {
     let modes = [MacroblockModes { y_mode: IntraYMode::B, segment_id: None }; 2];
     assert_eq!(filter_frame_flags(&mut planes, &modes, &[true; 2], &config()), Ok(()));
     assert_ne!(planes, picture());
-    assert_eq!(filter_frame_from(&mut planes, &modes, &[true; 2], &config(), 2, 5), Ok(Done { count: 0, next: 2 }));
+    assert_eq!(
+        filter_frame_from(&mut planes, &modes, &[true; 2], &config(), 2, 5),
+        Ok(Done { count: 0, next: 2, smoothed: 0 })
+    );
 }
 
 #[test]
@@ -125,6 +128,9 @@ fn refused_kernels() {
     assert_eq!(subblock_filter(1, 2, 3, &mut window, MOST).unwrap_err().to_string(), at(MOST));
     assert_eq!(common_adjust(true, &mut window, 4).unwrap_err().kind(), RefusalKind::NoWindow);
     assert_eq!(simple_segment(255, &mut [], 0).unwrap_err().kind(), RefusalKind::NoWindow);
+    assert_eq!(mb_filter_passed(1, 2, 3, &mut window, 0).unwrap_err().to_string(), at(0));
+    assert_eq!(subblock_filter_passed(1, 2, 3, &mut window, MOST).unwrap_err().to_string(), at(MOST));
+    assert_eq!(simple_segment_passed(255, &mut [], 0).unwrap_err().kind(), RefusalKind::NoWindow);
     assert_eq!(window, [1, 2, 3, 4, 5, 6, 7]);
 }
 
@@ -207,7 +213,8 @@ fn refused_records() {
     let most = format!("refused (5): 0 records from macroblock {MOST} on came, the picture has 2 macroblocks");
     assert_eq!(text(MOST, 0, 0), most);
     assert_eq!(pass.put(2, &dc[..0], &[], None), Ok(()));
-    assert_eq!(pass.advance(MOST), Ok(Done { count: 2, next: 2 }));
+    let done = pass.advance(MOST).unwrap();
+    assert_eq!(done, Done { count: 2, next: 2, smoothed: pass.smoothed() });
     assert_eq!(planes, expected);
 }
 
@@ -217,7 +224,7 @@ fn a_pass_over_nothing() {
     let mut planes = KeyframePlanes { mb_cols: 0, mb_rows: MOST, ..picture() };
     let mut pass = FramePass::new(&mut planes, &[MacroblockModes::default(); 5], &[true; 3], None, &config()).unwrap();
     assert!(pass.is_done());
-    assert_eq!(pass.advance(7), Ok(Done { count: 0, next: 0 }));
+    assert_eq!(pass.advance(7), Ok(Done { count: 0, next: 0, smoothed: 0 }));
     assert_eq!(pass.final_rows(), Ok(FinalRows { luma: 0, chroma: 0 }));
     assert_eq!(pass.put(0, &[MacroblockModes::default()], &[true], None).unwrap_err().number(), 5);
     assert_eq!(planes, KeyframePlanes { mb_cols: 0, mb_rows: MOST, ..picture() });

@@ -1,14 +1,15 @@
 -- Horizontal edges as the private functions that filter them promise it: rows of taps, which are signed samples, the kernels on them by value, and rows stored back.
 use mathlib.Core.Bool.{Bool, cond}
 use mathlib.Core.List.{List, [], _∷_}
-use Prim.Native.Nat.{ℕ, _+_, _*_, _≤_, _<_}
+use Prim.Native.Nat.{ℕ, zero, suc, _+_, _*_, _≤_, _<_}
+use lib.Dec.{leb}
 use lib.ListN.{getD, set}
 use lib.IntN.{ℤ, pos, _+ℤ_, _-ℤ_}
 use lib.Signed.{mag, ltZ}
 use Rattle.arithmetic.specs.Numbers.{clamp, u2s, s2u, shr}
 use Rattle.arithmetic.specs.Tables.{table}
-use Rattle.kernels.specs.Kernels.{part, gainOf, lossOf}
-use Rattle.kernels.specs.Segment.{Kernel, subblockFilter, mbFilter, smooth}
+use Rattle.kernels.specs.Kernels.{edgeValue, filterYes, part, gainOf, lossOf}
+use Rattle.kernels.specs.Segment.{Kernel, subblockFilter, mbFilter, smooth, mark}
 use Rattle.planes.specs.Steps.{steps}
 use Rattle.edges.specs.declared.run.InnerTaps.{InnerTaps}
 use Rattle.edges.specs.declared.run.EdgeTaps.{EdgeTaps}
@@ -123,6 +124,20 @@ runOfEight k n t =
 -- four
 unfoldable pub runOfFour : Kernel → (n : ℕ) → List (List ℤ) → List (List ℤ)
 runOfFour k n t = getD t 0 [] ∷ table n (λ j. edgeOf k t j .p0) ∷ table n (λ j. edgeOf k t j .q0) ∷ getD t 3 [] ∷ []
+
+-- ---- how many positions pass
+
+-- filter_yes at position j of eight rows, and the simple test at position j of four
+abbrev pub yesOf : (interior edge : ℕ) → List (List ℤ) → (j : ℕ) → Bool
+yesOf interior edge t j = filterYes interior edge (tapOf t 0 j) (tapOf t 1 j) (tapOf t 2 j) (tapOf t 3 j) (tapOf t 4 j) (tapOf t 5 j) (tapOf t 6 j) (tapOf t 7 j)
+
+abbrev pub simpleOf : (edge : ℕ) → List (List ℤ) → (j : ℕ) → Bool
+simpleOf edge t j = leb (edgeValue (tapOf t 0 j) (tapOf t 1 j) (tapOf t 2 j) (tapOf t 3 j)) edge
+
+-- of the first n
+unfoldable pub marksOf : (test : ℕ → Bool) → (n : ℕ) → ℕ
+marksOf test zero = 0
+marksOf test (suc n) = marksOf test n + mark (test n)
 
 -- ---- numbers on the way
 

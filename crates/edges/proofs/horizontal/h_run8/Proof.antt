@@ -5,6 +5,7 @@ use native.Mathlib.Omega.{arith}
 use Prim.Native.Nat.{ℕ, _<_}
 use lib.ListN.{getD}
 use Rattle.edges.proofs.RowRuns.{taps-signed, mb-signed, sub-signed, mb-either, sub-either}
+use Rattle.edges.proofs.RowCounts.{eight-counted}
 use borrow.Author.Needs.{needs}
 use Rattle.edges.proofs.horizontal.h_run8.Statement.{statement}
 use Rattle.edges.proofs.horizontal.h_run8.Tie as tie
@@ -17,51 +18,73 @@ gather-rows8-requires c κs = search needs
 
 mb-run8-requires : tie.Need-mb-run8-requires
 mb-run8-requires c κs =
-    let x = c .before .before .before .before .args in
-    let g = c .before .gather-rows8 in
-    taps-signed (x .hev-threshold) (x .interior-limit) (x .edge-limit) 8 (x .stride) (x .at) (now (x .plane)) (bytes (c .before .before .before)) (g .result) (g .result) (g .ensures)
+    let a = c .before .before in
+    let g = a .gather-rows8 in
+    let k = a .before .before in
+    let x = k .before .args in
+    taps-signed (x .hev-threshold) (x .interior-limit) (x .edge-limit) 8 (x .stride) (x .at) (now (x .plane)) (bytes k) (g .result) (g .result) (g .ensures)
 
 scatter-six8-requires : tie.Need-scatter-six8-requires
 scatter-six8-requires c κs =
-    let x = c .before .before .before .before .before .before .args in
     let r = c .before .mb-run8 in
-    let g = c .before .before .before .gather-rows8 in
-    (search needs, mb-signed (x .hev-threshold) (x .interior-limit) (x .edge-limit) 8 (x .stride) (x .at) (now (x .plane)) (bytes (c .before .before .before .before .before)) (g .result) (r .result) (g .ensures) (r .ensures))
+    let a = c .before .before .before .before in
+    let g = a .gather-rows8 in
+    let k = a .before .before in
+    let x = k .before .args in
+    (search needs, mb-signed (x .hev-threshold) (x .interior-limit) (x .edge-limit) 8 (x .stride) (x .at) (now (x .plane)) (bytes k) (g .result) (r .result) (g .ensures) (r .ensures .0))
 
 sub-run8-requires : tie.Need-sub-run8-requires
 sub-run8-requires c κs =
-    let x = c .before .before .before .before .args in
-    let g = c .before .gather-rows8 in
-    taps-signed (x .hev-threshold) (x .interior-limit) (x .edge-limit) 8 (x .stride) (x .at) (now (x .plane)) (bytes (c .before .before .before)) (g .result) (g .result) (g .ensures)
+    let a = c .before .before in
+    let g = a .gather-rows8 in
+    let k = a .before .before in
+    let x = k .before .args in
+    taps-signed (x .hev-threshold) (x .interior-limit) (x .edge-limit) 8 (x .stride) (x .at) (now (x .plane)) (bytes k) (g .result) (g .result) (g .ensures)
 
 scatter-four8-requires : tie.Need-scatter-four8-requires
 scatter-four8-requires c κs =
-    let x = c .before .before .before .before .before .before .args in
     let r = c .before .sub-run8 in
-    let g = c .before .before .before .gather-rows8 in
-    (search needs, sub-signed (x .hev-threshold) (x .interior-limit) (x .edge-limit) 8 (x .stride) (x .at) (now (x .plane)) (bytes (c .before .before .before .before .before)) (g .result) (r .result) (g .ensures) (r .ensures))
+    let a = c .before .before .before .before in
+    let g = a .gather-rows8 in
+    let k = a .before .before in
+    let x = k .before .args in
+    (search needs, sub-signed (x .hev-threshold) (x .interior-limit) (x .edge-limit) 8 (x .stride) (x .at) (now (x .plane)) (bytes k) (g .result) (r .result) (g .ensures) (r .ensures .0))
 
 same-length : tie.Need-same-length
 same-length c = search needs
 
 returns : tie.Need-returns
 returns c =
-    let s = c .before .before .before .before .before .before .before .before .before in
-    let x = s .args in
-    let r = c .before .before .before .before .mb-run8 in
-    let g = c .before .before .before .before .before .before .gather-rows8 in
-    mb-either (x .hev-threshold) (x .interior-limit) (x .edge-limit) 8 (x .stride) (x .at) (now (x .plane)) (bytes (c .before .before .before .before .before .before .before .before)) (g .result) (r .result) (g .ensures) (x .mb-edge) (c .before .before .before .before .before .if1 .taken) (s .pre .1) (r .ensures) _ (c .before .before .scatter-six8 .ensures)
+    let w = c .before .before .before in
+    let q = w .before .before in
+    let r = q .mb-run8 in
+    let t = q .before .before in
+    let a = t .before in
+    let g = a .gather-rows8 in
+    let k = a .before .before in
+    let s = k .before in
+    let x = s .args in (
+      mb-either (x .hev-threshold) (x .interior-limit) (x .edge-limit) 8 (x .stride) (x .at) (now (x .plane)) (bytes k) (g .result) (r .result) (g .ensures) (x .mb-edge) (t .if1 .taken) (s .pre .1) (r .ensures .0) _ (w .scatter-six8 .ensures),
+      eight-counted 8 (x .stride) (x .at) (now (x .plane)) (x .mb-edge) (x .hev-threshold) (x .interior-limit) (x .edge-limit) (g .result) (g .ensures) (s .pre .1) _ (r .ensures .1),
+    )
 
 same-length-2 : tie.Need-same-length-2
 same-length-2 c = search needs
 
 returns-2 : tie.Need-returns-2
 returns-2 c =
-    let s = c .before .before .before .before .before .before .before .before .before in
-    let x = s .args in
-    let r = c .before .before .before .before .sub-run8 in
-    let g = c .before .before .before .before .before .before .gather-rows8 in
-    sub-either (x .hev-threshold) (x .interior-limit) (x .edge-limit) 8 (x .stride) (x .at) (now (x .plane)) (bytes (c .before .before .before .before .before .before .before .before)) (g .result) (r .result) (g .ensures) (x .mb-edge) (c .before .before .before .before .before .if1 .left) (s .pre .1) (r .ensures) _ (c .before .before .scatter-four8 .ensures)
+    let w = c .before .before .before in
+    let q = w .before .before in
+    let r = q .sub-run8 in
+    let t = q .before .before in
+    let a = t .before in
+    let g = a .gather-rows8 in
+    let k = a .before .before in
+    let s = k .before in
+    let x = s .args in (
+      sub-either (x .hev-threshold) (x .interior-limit) (x .edge-limit) 8 (x .stride) (x .at) (now (x .plane)) (bytes k) (g .result) (r .result) (g .ensures) (x .mb-edge) (t .if1 .left) (s .pre .1) (r .ensures .0) _ (w .scatter-four8 .ensures),
+      eight-counted 8 (x .stride) (x .at) (now (x .plane)) (x .mb-edge) (x .hev-threshold) (x .interior-limit) (x .edge-limit) (g .result) (g .ensures) (s .pre .1) _ (r .ensures .1),
+    )
 
 pub h-run8-spec : {M : Type 1} → statement M
 h-run8-spec =

@@ -7,7 +7,7 @@ use lib.ListN.{length}
 use denote.Ref.{now}
 use Rattle.kernels.specs.Segment.{half, taps}
 use Rattle.kernels.proofs.Windows.{taken, left}
-use Rattle.edges.specs.EdgeFrom.{edgeFits, edgeWithin}
+use Rattle.edges.specs.EdgeFrom.{edgeFits, edgeWithin, smoothedWithin}
 use Rattle.edges.proofs.EdgeRoom.{both-pass}
 use Rattle.edges.proofs.horizontal.subblock_edge8.Statement.{statement}
 use Rattle.edges.proofs.horizontal.subblock_edge8.Tie as tie
@@ -24,15 +24,15 @@ same-length : tie.Need-same-length
 same-length c = search needs
 
 returns : tie.Need-returns
-unfolding half taps edgeFits edgeWithin
+unfolding half taps edgeFits edgeWithin smoothedWithin
 returns c =
     let j = c .before .before in
     let t = j .before .before in
-    j .h-run8 .ensures ∙ sym (taken _ _ (t .before .has-rows .ensures) (t .if1 .taken))
+    (j .h-run8 .ensures .0 ∙ sym (taken _ _ (t .before .has-rows .ensures) (t .if1 .taken)), j .h-run8 .ensures .1 ∙ sym (taken _ _ (t .before .has-rows .ensures) (t .if1 .taken)))
 
 returns-2 : tie.Need-returns-2
-unfolding half taps edgeFits edgeWithin
-returns-2 c = sym (left _ _ (c .before .has-rows .ensures) (c .if1 .left))
+unfolding half taps edgeFits edgeWithin smoothedWithin
+returns-2 c = (sym (left _ _ (c .before .has-rows .ensures) (c .if1 .left)), sym (left _ _ (c .before .has-rows .ensures) (c .if1 .left)))
 
 pub subblock-edge8-spec : {M : Type 1} → statement M
 subblock-edge8-spec = tie.close (tie.spec has-rows-requires h-run8-requires same-length returns returns-2)

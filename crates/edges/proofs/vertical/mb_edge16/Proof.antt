@@ -1,14 +1,15 @@
 -- `edges::vertical::mb_edge16` meets its contract.
 -- Assumes nothing.
 use borrow.Author.Needs.{needs}
-use mathlib.Core.Path.{sym, _∙_}
+use mathlib.Core.Path.{refl, sym, _∙_}
 use Prim.Native.Nat.{_+_, _*_}
 use lib.ListN.{length}
 use denote.Ref.{now}
 use borrow.Author.Tests.{leb-true}
 use Rattle.kernels.specs.Segment.{half, taps}
 use Rattle.kernels.proofs.Windows.{taken, left}
-use Rattle.edges.specs.EdgeFrom.{edgeFits, edgeWithin}
+use Rattle.edges.specs.EdgeFrom.{edgeFits, edgeWithin, smoothedWithin}
+use Rattle.edges.proofs.VerticalRows.{missed-rest}
 use Rattle.edges.proofs.vertical.mb_edge16.Statement.{statement}
 use Rattle.edges.proofs.vertical.mb_edge16.Tie as tie
 
@@ -17,22 +18,29 @@ has-room-requires c κs = search needs
 
 v-mb-requires : tie.Need-v-mb-requires
 v-mb-requires c κs =
-    let x = c .before .before .before .before .args in
-    leb-true (x .at + 15 * x .stride + 8) (length (now (x .plane))) (sym (c .before .before .has-room .ensures) ∙ c .before .if1 .taken)
+    let t = c .before .before in
+    let h = t .before in
+    let x = h .before .before .args in
+    (leb-true (x .at + 15 * x .stride + 8) (length (now (x .plane))) (sym (h .has-room .ensures) ∙ t .if1 .taken), refl)
+
+sub-result : tie.Need-sub-result
+sub-result c = search needs
 
 same-length : tie.Need-same-length
 same-length c = search needs
 
 returns : tie.Need-returns
-unfolding half taps edgeFits edgeWithin
+unfolding half taps edgeFits edgeWithin smoothedWithin
 returns c =
     let j = c .before .before in
-    let t = j .before .before in
-    j .v-mb .ensures ∙ sym (taken _ _ (t .before .has-room .ensures) (t .if1 .taken))
+    let t = j .before .before .before in
+    let h = t .before .has-room .ensures in
+    (j .v-mb .ensures .0 ∙ sym (taken _ _ h (t .if1 .taken)), missed-rest 16 _ _ (j .v-mb .ensures .1) ∙ sym (taken _ _ h (t .if1 .taken)))
 
 returns-2 : tie.Need-returns-2
-unfolding half taps edgeFits edgeWithin
-returns-2 c = sym (left _ _ (c .before .has-room .ensures) (c .if1 .left))
+unfolding half taps edgeFits edgeWithin smoothedWithin
+returns-2 c = let h = c .before .has-room .ensures in (sym (left _ _ h (c .if1 .left)), sym (left _ _ h (c .if1 .left)))
 
 pub mb-edge16-spec : {M : Type 1} → statement M
-mb-edge16-spec = tie.close (tie.spec has-room-requires v-mb-requires same-length returns returns-2)
+mb-edge16-spec =
+    tie.close (tie.spec has-room-requires v-mb-requires sub-result same-length returns returns-2)

@@ -1,16 +1,15 @@
 -- `frame::normal::inner_horizontal16` meets its contract.
 -- Assumes nothing.
 use borrow.Author.Needs.{needs}
-use mathlib.Core.Path.{sym, ap, _∙_}
-use mathlib.Core.Bool.{Bool, cond}
-use Prim.Native.Nat.{_+_, _*_, _-_}
+use Prim.Native.Nat.{_+_, _-_, _*_}
 use native.Mathlib.Omega.{arith}
 use lib.ListN.{length}
 use denote.Ref.{now}
-use Rattle.kernels.specs.Segment.{half, taps}
 use Rattle.edges.specs.NormalKernels.{innerOf}
+use Rattle.planes.specs.Edges.{horizontal}
 use Rattle.frame.specs.Private.PlaneEdges.{threeHorizontal}
-use Rattle.frame.proofs.EdgesWithin.{three-horizontal-within}
+use Rattle.frame.proofs.EdgesWithin.{did-if, did-not, within-most, three-horizontal-within}
+use Rattle.kernels.specs.Segment.{half, taps}
 use Rattle.frame.proofs.normal.inner_horizontal16.Statement.{statement}
 use Rattle.frame.proofs.normal.inner_horizontal16.Tie as tie
 
@@ -26,6 +25,12 @@ add-subblock-edge16 c = search needs
 subblock-edge16-requires-2 : tie.Need-subblock-edge16-requires-2
 subblock-edge16-requires-2 c κs = search needs
 
+add-b : tie.Need-add-b
+add-b c =
+    let j2 = c .before .before in
+    let j1 = j2 .before .before .before .before in
+    omega (arith, within-most _ _ _ _ 16 _ _ (j1 .subblock-edge16 .ensures .1), within-most _ _ _ _ 16 _ _ (j2 .subblock-edge162 .ensures .1))
+
 mul-subblock-edge16-2 : tie.Need-mul-subblock-edge16-2
 mul-subblock-edge16-2 c = search needs
 
@@ -34,6 +39,13 @@ add-subblock-edge16-2 c = search needs
 
 subblock-edge16-requires-3 : tie.Need-subblock-edge16-requires-3
 subblock-edge16-requires-3 c κs = search needs
+
+add-result : tie.Need-add-result
+add-result c =
+    let j3 = c .before .before in
+    let j2 = j3 .before .before .before .before in
+    let j1 = j2 .before .before .before .before in
+    omega (arith, within-most _ _ _ _ 16 _ _ (j1 .subblock-edge16 .ensures .1), within-most _ _ _ _ 16 _ _ (j2 .subblock-edge162 .ensures .1), within-most _ _ _ _ 16 _ _ (j3 .subblock-edge163 .ensures .1))
 
 same-length : tie.Need-same-length
 same-length c = search needs
@@ -47,11 +59,11 @@ returns c =
     let t = j1 .before .before in
     let s = t .before .before in
     let x = s .args in
-    three-horizontal-within (innerOf (x .limits)) (x .stride) (x .corner) (now (x .plane)) _ _ _ (s .pre .1) (omega (arith, s .pre .0)) (j1 .subblock-edge16 .ensures) (j2 .subblock-edge162 .ensures) (j3 .subblock-edge163 .ensures)
-    ∙ sym (ap (λ (u : Bool). cond u (threeHorizontal (innerOf (x .limits)) (x .stride) (x .corner) (now (x .plane))) (now (x .plane))) (t .if1 .taken))
+    did-if (x .inside) (t .if1 .taken)
+    (three-horizontal-within (innerOf (x .limits)) (x .stride) (x .corner) (now (x .plane)) _ _ _ _ _ _ (s .pre .1) (omega (arith, s .pre .0)) (j1 .subblock-edge16 .ensures) (j2 .subblock-edge162 .ensures) (j3 .subblock-edge163 .ensures))
 
 returns-2 : tie.Need-returns-2
-returns-2 c = search needs
+returns-2 c = let x = c .before .before .args in did-not 48 (threeHorizontal (innerOf (x .limits)) (x .stride) (x .corner)) (now (x .plane)) (x .inside) (c .if1 .left)
 
 pub inner-horizontal16-spec : {M : Type 1} → statement M
 inner-horizontal16-spec =
@@ -61,9 +73,11 @@ inner-horizontal16-spec =
     mul-subblock-edge16
     add-subblock-edge16
     subblock-edge16-requires-2
+    add-b
     mul-subblock-edge16-2
     add-subblock-edge16-2
     subblock-edge16-requires-3
+    add-result
     same-length
     returns
     returns-2)

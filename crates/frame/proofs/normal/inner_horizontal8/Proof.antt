@@ -1,17 +1,15 @@
 -- `frame::normal::inner_horizontal8` meets its contract.
 -- Assumes nothing.
 use borrow.Author.Needs.{needs}
-use mathlib.Core.Path.{sym, ap, _∙_}
-use mathlib.Core.Bool.{Bool, cond}
-use Prim.Native.Nat.{_-_}
+use Prim.Native.Nat.{_+_, _-_, _*_}
 use native.Mathlib.Omega.{arith}
 use lib.ListN.{length}
 use denote.Ref.{now}
-use Rattle.kernels.specs.Segment.{half, taps}
-use Rattle.planes.specs.Edges.{horizontal}
-use Rattle.edges.specs.EdgeFrom.{edgeFrom}
 use Rattle.edges.specs.NormalKernels.{innerOf}
-use Rattle.edges.proofs.EdgeRoom.{horizontal-within}
+use Rattle.planes.specs.Edges.{horizontal}
+use Rattle.kernels.specs.Segment.{half, taps}
+use Rattle.frame.specs.Private.PlaneEdges.{along}
+use Rattle.frame.proofs.EdgesWithin.{did-if, did-not, did-horizontal}
 use Rattle.frame.proofs.normal.inner_horizontal8.Statement.{statement}
 use Rattle.frame.proofs.normal.inner_horizontal8.Tie as tie
 
@@ -28,12 +26,10 @@ returns c =
     let t = j .before .before in
     let s = t .before .before in
     let x = s .args in
-    j .subblock-edge8 .ensures
-    ∙ horizontal-within (innerOf (x .limits)) (x .stride) (x .corner) 8 (now (x .plane)) (s .pre .1) (s .pre .0)
-    ∙ sym (ap (λ (u : Bool). cond u (edgeFrom horizontal (innerOf (x .limits)) (x .stride) (x .corner) 8 (now (x .plane))) (now (x .plane))) (t .if1 .taken))
+    did-if (x .inside) (t .if1 .taken) (did-horizontal (innerOf (x .limits)) (x .stride) (x .corner) 8 (now (x .plane)) _ _ (s .pre .1) (omega (arith, s .pre .0)) (j .subblock-edge8 .ensures .0) (j .subblock-edge8 .ensures .1))
 
 returns-2 : tie.Need-returns-2
-returns-2 c = search needs
+returns-2 c = let x = c .before .before .args in did-not 8 (along horizontal (innerOf (x .limits)) (x .stride) (x .corner) 8) (now (x .plane)) (x .inside) (c .if1 .left)
 
 pub inner-horizontal8-spec : {M : Type 1} → statement M
 inner-horizontal8-spec = tie.close (tie.spec subblock-edge8-requires same-length returns returns-2)

@@ -1,20 +1,17 @@
 -- `frame::normal::left8` meets its contract.
 -- Assumes nothing.
 use borrow.Author.Needs.{needs}
-use mathlib.Core.Path.{sym, ap, _∙_}
-use mathlib.Core.Bool.{Bool, cond}
-use Prim.Native.Nat.{_-_}
+use Prim.Native.Nat.{_+_, _-_, _*_}
 use native.Mathlib.Omega.{arith}
-use lib.Dec.{ltb}
 use lib.ListN.{length}
 use denote.Ref.{now}
+use lib.Dec.{ltb}
 use borrow.Author.Tests.{lt-ltb, le-ltb}
-use Rattle.kernels.specs.Segment.{half, taps}
 use Rattle.planes.specs.Edges.{vertical}
-use Rattle.edges.specs.EdgeFrom.{edgeFrom}
 use Rattle.edges.specs.NormalKernels.{outerOf}
-use Rattle.frame.specs.Private.PlaneEdges.{leftFrom}
-use Rattle.edges.proofs.EdgeRoom.{vertical-within}
+use Rattle.frame.specs.Private.PlaneEdges.{along, leftFrom}
+use Rattle.frame.proofs.EdgesWithin.{did-if, did-not, did-vertical}
+use Rattle.kernels.specs.Segment.{half, taps}
 use Rattle.frame.proofs.normal.left8.Statement.{statement}
 use Rattle.frame.proofs.normal.left8.Tie as tie
 
@@ -34,15 +31,12 @@ returns c =
     let t = j .before .before in
     let s = t .before .before in
     let x = s .args in
-    j .mb-edge8 .ensures
-    ∙ vertical-within (outerOf (x .limits)) (x .stride) (x .corner - 4) 8 (now (x .plane)) (omega (arith, s .pre .0, s .pre .1 (t .if1 .taken)))
-    ∙ sym (ap (λ (u : Bool). cond u (edgeFrom vertical (outerOf (x .limits)) (x .stride) (x .corner - 4) 8 (now (x .plane))) (now (x .plane))) (lt-ltb 0 (x .column) (t .if1 .taken)))
+    did-if (ltb 0 (x .column)) (lt-ltb 0 (x .column) (t .if1 .taken))
+    (did-vertical (outerOf (x .limits)) (x .stride) (x .corner - 4) 8 (now (x .plane)) _ _ (omega (arith, s .pre .0, s .pre .1 (t .if1 .taken))) (j .mb-edge8 .ensures .0) (j .mb-edge8 .ensures .1))
 
 returns-2 : tie.Need-returns-2
-unfolding leftFrom
-returns-2 c =
-    let x = c .before .before .args in
-    sym (ap (λ (u : Bool). cond u (edgeFrom vertical (outerOf (x .limits)) (x .stride) (x .corner - 4) 8 (now (x .plane))) (now (x .plane))) (le-ltb 0 (x .column) (c .if1 .left)))
+unfolding half taps leftFrom
+returns-2 c = let x = c .before .before .args in did-not 8 (along vertical (outerOf (x .limits)) (x .stride) (x .corner - 4) 8) (now (x .plane)) (ltb 0 (x .column)) (le-ltb 0 (x .column) (c .if1 .left))
 
 pub left8-spec : {M : Type 1} → statement M
 left8-spec = tie.close (tie.spec sub-mb-edge8 mb-edge8-requires same-length returns returns-2)

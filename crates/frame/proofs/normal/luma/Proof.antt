@@ -1,13 +1,8 @@
 -- `frame::normal::luma` meets its contract.
 -- Assumes nothing.
 use borrow.Author.Needs.{needs}
-use mathlib.Core.Path.{ap, _∙_}
-use mathlib.Core.Bool.{cond}
-use mathlib.Core.List.{List}
-use Prim.Native.Nat.{ℕ}
-use Rattle.planes.specs.Edges.{vertical, horizontal}
-use Rattle.edges.specs.NormalKernels.{outerOf, innerOf}
-use Rattle.frame.specs.Private.PlaneEdges.{topFrom, threeVertical, threeHorizontal, lumaFrom}
+use Rattle.frame.specs.Private.PlaneEdges.{lumaFrom}
+use Rattle.frame.proofs.EdgesWithin.{did-then}
 use Rattle.frame.proofs.normal.luma.Statement.{statement}
 use Rattle.frame.proofs.normal.luma.Tie as tie
 
@@ -17,11 +12,20 @@ left16-requires c κs = search needs
 inner-vertical16-requires : tie.Need-inner-vertical16-requires
 inner-vertical16-requires c κs = search needs
 
+add-b : tie.Need-add-b
+add-b c = search needs
+
 top16-requires : tie.Need-top16-requires
 top16-requires c κs = search needs
 
+add-c : tie.Need-add-c
+add-c c = search needs
+
 inner-horizontal16-requires : tie.Need-inner-horizontal16-requires
 inner-horizontal16-requires c κs = search needs
+
+add-result : tie.Need-add-result
+add-result c = search needs
 
 same-length : tie.Need-same-length
 same-length c = search needs
@@ -33,10 +37,7 @@ returns c =
     let j3 = j4 .before .before .before .before in
     let j2 = j3 .before .before .before .before in
     let j1 = j2 .before .before .before .before in
-    let x = j1 .before .before .before .args in
-    let e2 = j2 .inner-vertical16 .ensures ∙ ap (λ (m : List ℕ). cond (x .inside) (threeVertical (innerOf (x .limits)) (x .stride) (x .corner) m) m) (j1 .left16 .ensures) in
-    let e3 = j3 .top16 .ensures ∙ ap (topFrom (outerOf (x .limits)) 4 16 (x .stride) (x .corner) (x .row)) e2 in
-    j4 .inner-horizontal16 .ensures ∙ ap (λ (m : List ℕ). cond (x .inside) (threeHorizontal (innerOf (x .limits)) (x .stride) (x .corner) m) m) e3
+    did-then (did-then (did-then (j1 .left16 .ensures) (j2 .inner-vertical16 .ensures)) (j3 .top16 .ensures)) (j4 .inner-horizontal16 .ensures)
 
 pub luma-spec : {M : Type 1} → statement M
 luma-spec =
@@ -44,7 +45,10 @@ luma-spec =
     (tie.spec
     left16-requires
     inner-vertical16-requires
+    add-b
     top16-requires
+    add-c
     inner-horizontal16-requires
+    add-result
     same-length
     returns)

@@ -41,11 +41,15 @@ same-length-2 c = search needs
 same-length-3 : tie.Need-same-length-3
 same-length-3 c = search needs
 
+counted-requires : tie.Need-counted-requires
+counted-requires c κs = search needs
+
 returns : tie.Need-returns
 returns c =
-    let f = c .before .before .before .before .before .before in
-    ends (meets (f .before .before .before .before)) (planesOf (f .filter-inter-range .last .0) (f .filter-inter-range .last .1 .0) (f .filter-inter-range .last .1 .1 .0))
-    (f .filter-inter-range .ensures)
+    let f = c .before .before .before .before .before .before .before in
+    let r = f .filter-inter-range .ensures in
+    ends (meets (f .before .before .before .before)) (planesOf (f .filter-inter-range .last .0) (f .filter-inter-range .last .1 .0) (f .filter-inter-range .last .1 .1 .0)) (f .filter-inter-range .result) (c .counted .result)
+    (r .planes) (r .smoothed) (c .counted .ensures)
 
 pub filter-inter-frame-spec : {M : Type 1} → statement M
 filter-inter-frame-spec =
@@ -55,6 +59,7 @@ filter-inter-frame-spec =
     bad-entries-requires
     judge-call-requires
     filter-inter-range-requires
+    counted-requires
     same-length
     same-length-2
     same-length-3

@@ -1,8 +1,13 @@
--- `frame::record_step::key_step` meets its contract. Assumes nothing.
+-- `frame::record_step::key_step` meets its contract.
+-- Assumes nothing.
 use borrow.Author.Needs.{needs}
 use denote.Ref.{now}
-use Rattle.planes.specs.Layout.{gridOf, planesOf}
+use native.Mathlib.Omega.{arith}
+use Rattle.planes.specs.Layout.{planesOf}
+use Rattle.planes.specs.Macroblock.{Plan}
+use Rattle.frame.proofs.PlaneSteps.{stepped-most}
 use Rattle.frame.proofs.RecordLaws.{key-record-step}
+use Rattle.frame.proofs.Soundness.{few-macroblocks}
 use Rattle.frame.proofs.record_step.key_step.Statement.{statement}
 use Rattle.frame.proofs.record_step.key_step.Tie as tie
 
@@ -14,6 +19,12 @@ record-inner-edges-requires c κs = search needs
 
 filter-macroblock-requires : tie.Need-filter-macroblock-requires
 filter-macroblock-requires c κs = search needs
+
+add-result : tie.Need-add-result
+add-result c =
+    let f = c .before .before .before .before .before .before in
+    let s = f .before .before .before .before .before .before .before .before .before in
+    omega (arith, stepped-most _ _ _ _ _ _ (f .filter-macroblock .ensures), s .pre, few-macroblocks _ _ _ _ (s .pre .0))
 
 same-length : tie.Need-same-length
 same-length c = search needs
@@ -29,8 +40,8 @@ returns c =
     let f = c .before .before .before .before .before .before in
     let i = f .before .before .before .before in
     let x = i .before .before .before .before .before .args in
-    key-record-step (x .config) (x .mb) _ _ (i .record-inner-edges .ensures) (gridOf (x .layout)) (x .m) (planesOf (now (x .y)) (now (x .u)) (now (x .v)))
-    (planesOf (f .filter-macroblock .last .0) (f .filter-macroblock .last .1 .0) (f .filter-macroblock .last .1 .1 .0)) (f .filter-macroblock .ensures) (i .before .key-record-level .ensures)
+    key-record-step (x .config) (x .mb) _ _ (i .record-inner-edges .ensures) (x .layout) (x .m) (planesOf (now (x .y)) (now (x .u)) (now (x .v)))
+    (planesOf (f .filter-macroblock .last .0) (f .filter-macroblock .last .1 .0) (f .filter-macroblock .last .1 .1 .0)) (x .smoothed) (f .filter-macroblock .result) (f .filter-macroblock .ensures) (i .before .key-record-level .ensures)
 
 pub key-step-spec : {M : Type 1} → statement M
 key-step-spec =
@@ -39,6 +50,7 @@ key-step-spec =
     key-record-level-requires
     record-inner-edges-requires
     filter-macroblock-requires
+    add-result
     same-length
     same-length-2
     same-length-3

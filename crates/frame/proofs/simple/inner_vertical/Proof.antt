@@ -1,15 +1,14 @@
 -- `frame::simple::inner_vertical` meets its contract.
 -- Assumes nothing.
 use borrow.Author.Needs.{needs}
-use mathlib.Core.Path.{sym, ap, _∙_}
-use mathlib.Core.Bool.{Bool, cond}
-use Prim.Native.Nat.{_+_, _-_}
+use Prim.Native.Nat.{_+_, _-_, _*_}
 use native.Mathlib.Omega.{arith}
 use lib.ListN.{length}
 use denote.Ref.{now}
 use Rattle.kernels.specs.Segment.{simpleSegment, half, taps}
+use Rattle.planes.specs.Edges.{vertical}
 use Rattle.frame.specs.Private.PlaneEdges.{threeVertical}
-use Rattle.frame.proofs.EdgesWithin.{three-vertical-within}
+use Rattle.frame.proofs.EdgesWithin.{did-if, did-not, within-most, three-vertical-within}
 use Rattle.frame.proofs.simple.inner_vertical.Statement.{statement}
 use Rattle.frame.proofs.simple.inner_vertical.Tie as tie
 
@@ -22,11 +21,24 @@ add-simple-edge16 c = search needs
 simple-edge16-requires-2 : tie.Need-simple-edge16-requires-2
 simple-edge16-requires-2 c κs = search needs
 
+add-b : tie.Need-add-b
+add-b c =
+    let j2 = c .before .before in
+    let j1 = j2 .before .before .before .before in
+    omega (arith, within-most _ _ _ _ 16 _ _ (j1 .simple-edge16 .ensures .1), within-most _ _ _ _ 16 _ _ (j2 .simple-edge162 .ensures .1))
+
 add-simple-edge16-2 : tie.Need-add-simple-edge16-2
 add-simple-edge16-2 c = search needs
 
 simple-edge16-requires-3 : tie.Need-simple-edge16-requires-3
 simple-edge16-requires-3 c κs = search needs
+
+add-result : tie.Need-add-result
+add-result c =
+    let j3 = c .before .before in
+    let j2 = j3 .before .before .before .before in
+    let j1 = j2 .before .before .before .before in
+    omega (arith, within-most _ _ _ _ 16 _ _ (j1 .simple-edge16 .ensures .1), within-most _ _ _ _ 16 _ _ (j2 .simple-edge162 .ensures .1), within-most _ _ _ _ 16 _ _ (j3 .simple-edge163 .ensures .1))
 
 same-length : tie.Need-same-length
 same-length c = search needs
@@ -40,11 +52,11 @@ returns c =
     let t = j1 .before .before in
     let s = t .before .before in
     let x = s .args in
-    three-vertical-within (simpleSegment (x .edge)) (x .stride) (x .first) (now (x .plane)) _ _ _ (omega (arith, s .pre)) (j1 .simple-edge16 .ensures) (j2 .simple-edge162 .ensures) (j3 .simple-edge163 .ensures)
-    ∙ sym (ap (λ (u : Bool). cond u (threeVertical (simpleSegment (x .edge)) (x .stride) (x .first) (now (x .plane))) (now (x .plane))) (t .if1 .taken))
+    did-if (x .inside) (t .if1 .taken)
+    (three-vertical-within (simpleSegment (x .edge)) (x .stride) (x .first) (now (x .plane)) _ _ _ _ _ _ (omega (arith, s .pre)) (j1 .simple-edge16 .ensures) (j2 .simple-edge162 .ensures) (j3 .simple-edge163 .ensures))
 
 returns-2 : tie.Need-returns-2
-returns-2 c = search needs
+returns-2 c = let x = c .before .before .args in did-not 48 (threeVertical (simpleSegment (x .edge)) (x .stride) (x .first)) (now (x .plane)) (x .inside) (c .if1 .left)
 
 pub inner-vertical-spec : {M : Type 1} → statement M
 inner-vertical-spec =
@@ -53,8 +65,10 @@ inner-vertical-spec =
     simple-edge16-requires
     add-simple-edge16
     simple-edge16-requires-2
+    add-b
     add-simple-edge16-2
     simple-edge16-requires-3
+    add-result
     same-length
     returns
     returns-2)

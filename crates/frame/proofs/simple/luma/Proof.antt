@@ -1,13 +1,8 @@
 -- `frame::simple::luma` meets its contract.
 -- Assumes nothing.
 use borrow.Author.Needs.{needs}
-use mathlib.Core.Path.{ap, _∙_}
-use mathlib.Core.Bool.{cond}
-use mathlib.Core.List.{List}
-use Prim.Native.Nat.{ℕ, _+_, _*_}
-use Rattle.kernels.specs.Segment.{simpleSegment}
-use Rattle.planes.specs.Edges.{vertical, horizontal}
-use Rattle.frame.specs.Private.PlaneEdges.{topFrom, threeVertical, threeHorizontal, lumaFrom}
+use Rattle.frame.specs.Private.PlaneEdges.{lumaFrom}
+use Rattle.frame.proofs.EdgesWithin.{did-then}
 use Rattle.frame.proofs.simple.luma.Statement.{statement}
 use Rattle.frame.proofs.simple.luma.Tie as tie
 
@@ -20,8 +15,14 @@ add-inner-vertical c = search needs
 inner-vertical-requires : tie.Need-inner-vertical-requires
 inner-vertical-requires c κs = search needs
 
+add-b : tie.Need-add-b
+add-b c = search needs
+
 top-requires : tie.Need-top-requires
 top-requires c κs = search needs
+
+add-c : tie.Need-add-c
+add-c c = search needs
 
 mul-inner-horizontal : tie.Need-mul-inner-horizontal
 mul-inner-horizontal c = search needs
@@ -31,6 +32,9 @@ add-inner-horizontal c = search needs
 
 inner-horizontal-requires : tie.Need-inner-horizontal-requires
 inner-horizontal-requires c κs = search needs
+
+add-result : tie.Need-add-result
+add-result c = search needs
 
 same-length : tie.Need-same-length
 same-length c = search needs
@@ -42,10 +46,7 @@ returns c =
     let j3 = j4 .before .before .before .before in
     let j2 = j3 .before .before .before .before in
     let j1 = j2 .before .before .before .before in
-    let x = j1 .before .before .before .args in
-    let e2 = j2 .inner-vertical .ensures ∙ ap (λ (m : List ℕ). cond (x .inside) (threeVertical (simpleSegment (x .inner)) (x .stride) (x .corner + 2) m) m) (j1 .left .ensures) in
-    let e3 = j3 .top .ensures ∙ ap (topFrom (simpleSegment (x .outer)) 2 16 (x .stride) (x .corner) (x .row)) e2 in
-    j4 .inner-horizontal .ensures ∙ ap (λ (m : List ℕ). cond (x .inside) (threeHorizontal (simpleSegment (x .inner)) (x .stride) (x .corner + 2 * x .stride) m) m) e3
+    did-then (did-then (did-then (j1 .left .ensures) (j2 .inner-vertical .ensures)) (j3 .top .ensures)) (j4 .inner-horizontal .ensures)
 
 pub luma-spec : {M : Type 1} → statement M
 luma-spec =
@@ -54,9 +55,12 @@ luma-spec =
     left-requires
     add-inner-vertical
     inner-vertical-requires
+    add-b
     top-requires
+    add-c
     mul-inner-horizontal
     add-inner-horizontal
     inner-horizontal-requires
+    add-result
     same-length
     returns)

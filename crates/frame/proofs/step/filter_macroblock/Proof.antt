@@ -1,19 +1,21 @@
 -- `frame::step::filter_macroblock` meets its contract.
 -- Assumes nothing.
 use borrow.Author.Needs.{needs}
-use mathlib.Core.Path.{sym, ap, _∙_}
+use mathlib.Core.Path.{_≡_, refl, sym, ap, _∙_}
 use mathlib.Core.Bool.{Bool, cond}
 use lib.ListN.{length}
 use lib.Dec.{eqb}
 use denote.Ref.{now}
 use Rattle.arithmetic.specs.declared.limits.LoopFilterParams.{LoopFilterParams}
 use Rattle.planes.specs.Layout.{gridOf, planesOf}
-use Rattle.planes.specs.Macroblock.{leave, filterMacroblock}
+use Rattle.planes.specs.Macroblock.{Plan, leave}
 use borrow.Author.Tests.{eq-eqb, ne-eqb}
 use Rattle.arithmetic.specs.Limits.{derive}
 use Rattle.calls.specs.Pass.{planWith, planAt}
 use Rattle.planes.proofs.StepParts.{macroblock-parts, leave-at}
+use Rattle.planes.proofs.SmoothedLaws.{left-smoothed}
 use Rattle.planes.specs.Edges.{places}
+use Rattle.frame.proofs.PlaneSteps.{stepped-as}
 use Rattle.frame.proofs.step.filter_macroblock.Statement.{statement}
 use Rattle.frame.proofs.step.filter_macroblock.Tie as tie
 
@@ -39,11 +41,10 @@ returns c =
     let t = j .before .before .before .before in
     let d = t .before in
     let x = d .before .before .before .before .args in
-    let p = planesOf (now (x .y)) (now (x .u)) (now (x .v)) in
-    let g = gridOf (x .layout) in
-    j .filter-with .ensures
-    ∙ ap (λ (q : LoopFilterParams). filterMacroblock g (λ _. planWith (x .config .«simple») q (x .inside)) (x .m) p) (d .limits-at .ensures)
-    ∙ ap (λ (b : Bool). filterMacroblock g (λ _. cond b leave (planWith (x .config .«simple») (derive (x .level) (x .config .«sharpness_level») (x .config .«key_frame»)) (x .inside))) (x .m) p) (sym (ne-eqb (x .level) 0 (t .if1 .taken)))
+    stepped-as (x .layout) (x .m) (planesOf (now (x .y)) (now (x .u)) (now (x .v))) _ _
+    (ap (λ (q : LoopFilterParams). planWith (x .config .«simple») q (x .inside)) (d .limits-at .ensures)
+    ∙ ap (λ (b : Bool). cond b leave (planWith (x .config .«simple») (derive (x .level) (x .config .«sharpness_level») (x .config .«key_frame»)) (x .inside))) (sym (ne-eqb (x .level) 0 (t .if1 .taken))))
+    (j .filter-with .ensures)
 
 returns-2 : tie.Need-returns-2
 unfolding planAt
@@ -51,8 +52,9 @@ returns-2 c =
     let x = c .before .before .before .before .before .args in
     let p = planesOf (now (x .y)) (now (x .u)) (now (x .v)) in
     let g = gridOf (x .layout) in
-    sym (macroblock-parts g (λ _. leave) (x .m) p ∙ leave-at g _ _ places p)
-    ∙ ap (λ (b : Bool). filterMacroblock g (λ _. cond b leave (planWith (x .config .«simple») (derive (x .level) (x .config .«sharpness_level») (x .config .«key_frame»)) (x .inside))) (x .m) p) (sym (eq-eqb (x .level) 0 (c .if1 .left)))
+    stepped-as (x .layout) (x .m) p p 0
+    (ap (λ (b : Bool). cond b leave (planWith (x .config .«simple») (derive (x .level) (x .config .«sharpness_level») (x .config .«key_frame»)) (x .inside))) (sym (eq-eqb (x .level) 0 (c .if1 .left))))
+    (record { planes = sym (macroblock-parts g (λ _. leave) (x .m) p ∙ leave-at g _ _ places p); smoothed = sym (left-smoothed g (λ _. leave) (x .m) p refl) })
 
 pub filter-macroblock-spec : {M : Type 1} → statement M
 filter-macroblock-spec =

@@ -1,22 +1,21 @@
 -- `frame::step::filter_with` meets its contract.
 -- Assumes nothing.
 use borrow.Author.Needs.{needs}
-use mathlib.Core.Path.{refl, sym, ap, _∙_}
+use mathlib.Core.Path.{_≡_, refl, sym, ap, _∙_}
 use mathlib.Core.Bool.{Bool}
-use mathlib.Core.List.{List}
-use Prim.Native.Nat.{ℕ}
 use native.Mathlib.Omega.{arith}
 use lib.ListN.{length}
 use denote.Ref.{now}
 use Rattle.kernels.specs.Segment.{half, simpleSegment}
 use Rattle.planes.specs.Layout.{gridOf, planesOf}
 use Rattle.edges.specs.NormalKernels.{outerOf, innerOf}
-use Rattle.planes.specs.Macroblock.{filterMacroblock}
+use Rattle.planes.specs.Macroblock.{Plan}
 use Rattle.planes.specs.Planes.{luma, chromaU, chromaV}
 use Rattle.calls.specs.Pass.{planWith}
+use Rattle.planes.specs.Private.Worked.{unworked}
 use Rattle.planes.proofs.Fits.{factor-positive}
 use Rattle.frame.proofs.Squares.{square-of}
-use Rattle.frame.proofs.PlaneSteps.{normal-step, simple-step}
+use Rattle.frame.proofs.PlaneSteps.{normal-step, simple-step, stepped, stepped-as}
 use Rattle.frame.proofs.step.filter_with.Statement.{statement}
 use Rattle.frame.proofs.step.filter_with.Tie as tie
 
@@ -41,10 +40,16 @@ normal-chroma-requires c κs =
     let s = c .before .before .before .before .before .before .before .before .before .before .before in
     square-of (gridOf (s .args .layout)) (planesOf (now (s .args .y)) (now (s .args .u)) (now (s .args .v))) (s .args .m) (s .pre .0 .strides) (s .pre .0 .planes) (s .pre .1) chromaU
 
+add-b : tie.Need-add-b
+add-b c = search needs
+
 normal-chroma-requires-2 : tie.Need-normal-chroma-requires-2
 normal-chroma-requires-2 c κs =
     let s = c .before .before .before .before .before .before .before .before .before .before .before .before .before .before .before in
     square-of (gridOf (s .args .layout)) (planesOf (now (s .args .y)) (now (s .args .u)) (now (s .args .v))) (s .args .m) (s .pre .0 .strides) (s .pre .0 .planes) (s .pre .1) chromaV
+
+add-result : tie.Need-add-result
+add-result c = search needs
 
 same-length : tie.Need-same-length
 same-length c = search needs
@@ -56,9 +61,10 @@ returns c =
     let t = j .before .before in
     let x = t .before .before .before .before .before .before .args in
     let p = planesOf (now (x .y)) (now (x .u)) (now (x .v)) in
-    ap (λ (l : List ℕ). planesOf l (now (x .u)) (now (x .v))) (j .simple-luma .ensures)
-    ∙ sym (simple-step (gridOf (x .layout)) (x .m) _ _ refl refl (simpleSegment (x .limits .«mbedge_limit»)) (simpleSegment (x .limits .«sub_bedge_limit»)) (x .inside) p refl refl)
-    ∙ ap (λ (b : Bool). filterMacroblock (gridOf (x .layout)) (λ _. planWith b (x .limits) (x .inside)) (x .m) p) (sym (t .if1 .taken))
+    stepped-as (x .layout) (x .m) p _ _ (ap (λ (b : Bool). planWith b (x .limits) (x .inside)) (sym (t .if1 .taken)))
+    (stepped (x .layout) _ (x .m) p (planesOf _ (now (x .u)) (now (x .v))) _ 0 0 _ (omega arith)
+    ((λ i. record { y = j .simple-luma .ensures .worked 0 i; u = record { samples = now (x .u); smoothed = 0 }; v = record { samples = now (x .v); smoothed = 0 } })
+    ∙ sym (simple-step (gridOf (x .layout)) (x .m) _ _ refl refl (simpleSegment (x .limits .«mbedge_limit»)) (simpleSegment (x .limits .«sub_bedge_limit»)) (x .inside) (unworked p) refl refl)))
 
 same-length-2 : tie.Need-same-length-2
 same-length-2 c = search needs
@@ -78,9 +84,10 @@ returns-2 c =
     let t = j1 .before .before in
     let x = t .before .before .before .before .before .before .args in
     let p = planesOf (now (x .y)) (now (x .u)) (now (x .v)) in
-    (λ i. planesOf (j1 .normal-luma .ensures i) (j2 .normal-chroma .ensures i) (j3 .normal-chroma2 .ensures i))
-    ∙ sym (normal-step (gridOf (x .layout)) (x .m) _ _ refl refl (outerOf (x .limits)) (innerOf (x .limits)) (x .inside) p refl refl)
-    ∙ ap (λ (b : Bool). filterMacroblock (gridOf (x .layout)) (λ _. planWith b (x .limits) (x .inside)) (x .m) p) (sym (t .if1 .left))
+    stepped-as (x .layout) (x .m) p _ _ (ap (λ (b : Bool). planWith b (x .limits) (x .inside)) (sym (t .if1 .left)))
+    (stepped (x .layout) _ (x .m) p (planesOf _ _ _) _ _ _ _ refl
+    ((λ i. record { y = j1 .normal-luma .ensures .worked 0 i; u = j2 .normal-chroma .ensures .worked 0 i; v = j3 .normal-chroma2 .ensures .worked 0 i })
+    ∙ sym (normal-step (gridOf (x .layout)) (x .m) _ _ refl refl (outerOf (x .limits)) (innerOf (x .limits)) (x .inside) (unworked p) refl refl)))
 
 pub filter-with-spec : {M : Type 1} → statement M
 filter-with-spec =
@@ -91,7 +98,9 @@ filter-with-spec =
     simple-luma-requires
     normal-luma-requires
     normal-chroma-requires
+    add-b
     normal-chroma-requires-2
+    add-result
     same-length
     returns
     same-length-2

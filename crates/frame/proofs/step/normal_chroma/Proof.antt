@@ -1,7 +1,7 @@
 -- `frame::step::normal_chroma` meets its contract.
 -- Assumes nothing.
 use borrow.Author.Needs.{needs}
-use Prim.Native.Nat.{_*_}
+use Prim.Native.Nat.{_+_, _-_, _*_}
 use native.Mathlib.Omega.{arith}
 use Rattle.frame.proofs.Squares.{factor-le}
 use Rattle.frame.proofs.step.normal_chroma.Statement.{statement}

@@ -1,11 +1,13 @@
 -- `kernels::segments::simple_segment` meets its contract.
 -- Assumes nothing.
 use borrow.Author.Needs.{needs}
-use mathlib.Core.Path.{sym, _∙_}
+use mathlib.Core.Path.{sym, ap, _∙_}
 use borrow.Author.Tests.{leb-true}
+use denote.Ref.{now}
+use Rattle.arithmetic.specs.Outcome.{gives}
 use Rattle.kernels.specs.Answers.{kernelOutcome}
 use Rattle.kernels.specs.Segment.{half, taps, fitsAt, windowed, windowAnswer}
-use Rattle.kernels.proofs.Windows.{taken, left}
+use Rattle.kernels.proofs.Windows.{taken, left, simple-passes}
 use Rattle.kernels.proofs.segments.simple_segment.Statement.{statement}
 use Rattle.kernels.proofs.segments.simple_segment.Tie as tie
 
@@ -24,7 +26,8 @@ returns c =
     let j = c .before .before in
     let t = j .before .before in
     let h = t .before .has-window .ensures in
-    (sym (taken _ _ h (t .if1 .taken)), j .simple-segment-passed .ensures .1 ∙ sym (taken _ _ h (t .if1 .taken)))
+    let x = t .before .before .before .args in
+    (ap gives (j .simple-segment-passed .ensures .0 ∙ sym (simple-passes (now (x .seg)) (x .base) (x .edge-limit))) ∙ sym (taken _ _ h (t .if1 .taken)), j .simple-segment-passed .ensures .1 ∙ sym (taken _ _ h (t .if1 .taken)))
 
 returns-2 : tie.Need-returns-2
 unfolding kernelOutcome half taps fitsAt windowed windowAnswer

@@ -1,11 +1,15 @@
 -- `kernels::segments::subblock_filter` meets its contract.
 -- Assumes nothing.
 use borrow.Author.Needs.{needs}
-use mathlib.Core.Path.{sym, _∙_}
+use mathlib.Core.Path.{sym, ap, _∙_}
 use borrow.Author.Tests.{leb-true}
+use mathlib.Core.Bool.{false}
+use denote.Ref.{now}
+use Rattle.arithmetic.specs.Outcome.{gives}
 use Rattle.kernels.specs.Answers.{kernelOutcome}
 use Rattle.kernels.specs.Segment.{half, taps, fitsAt, windowed, windowAnswer}
 use Rattle.kernels.proofs.Windows.{taken, left}
+use Rattle.kernels.proofs.Filtered.{window-passes}
 use Rattle.kernels.proofs.segments.subblock_filter.Statement.{statement}
 use Rattle.kernels.proofs.segments.subblock_filter.Tie as tie
 
@@ -24,7 +28,8 @@ returns c =
     let j = c .before .before in
     let t = j .before .before in
     let h = t .before .has-window .ensures in
-    (sym (taken _ _ h (t .if1 .taken)), j .subblock-filter-passed .ensures .bytes ∙ sym (taken _ _ h (t .if1 .taken)))
+    let x = t .before .before .before .args in
+    (ap gives (j .subblock-filter-passed .ensures .yes ∙ window-passes (now (x .seg)) (x .base) false (x .hev-threshold) (x .interior-limit) (x .edge-limit)) ∙ sym (taken _ _ h (t .if1 .taken)), j .subblock-filter-passed .ensures .bytes ∙ sym (taken _ _ h (t .if1 .taken)))
 
 returns-2 : tie.Need-returns-2
 unfolding kernelOutcome half taps fitsAt windowed windowAnswer

@@ -1,7 +1,7 @@
 -- `loop_filter::passes::put_progress` meets its contract. Assumes nothing.
 use mathlib.Core.Path.{refl, sym, ap}
 use Rattle.arithmetic.specs.Outcome.{numberOf}
-use Rattle.calls.specs.Answers.{passOutcome}
+use Rattle.calls.specs.Answers.{passOutcome, partOutcome}
 use Rattle.loop_filter.specs.Returned.{outOf}
 use Rattle.loop_filter.proofs.Returns.{progress}
 use borrow.Author.Needs.{needs}
@@ -18,13 +18,14 @@ pass-refusal-number-requires : tie.Need-pass-refusal-number-requires
 pass-refusal-number-requires c κs = search needs
 
 returns : tie.Need-returns
-unfolding numberOf passOutcome outOf
-returns c = progress (sym (ap passOutcome (c .before .answer .given .1))) (record { number = refl; count = refl; next = refl })
+unfolding numberOf passOutcome partOutcome outOf
+returns c = progress (sym (ap passOutcome (c .before .answer .given .1))) (sym (ap partOutcome (c .before .answer .given .1))) (record { number = refl; count = refl; next = refl; smoothed = refl })
 
 returns-2 : tie.Need-returns-2
-unfolding numberOf passOutcome outOf
+unfolding numberOf passOutcome partOutcome outOf
 returns-2 c =
-    progress (sym (ap passOutcome (c .before .before .answer2 .given .1))) (record { number = c .pass-refusal-number .ensures; count = refl; next = refl })
+    progress (sym (ap passOutcome (c .before .before .answer2 .given .1))) (sym (ap partOutcome (c .before .before .answer2 .given .1)))
+    (record { number = c .pass-refusal-number .ensures; count = refl; next = refl; smoothed = refl })
 
 pub put-progress-spec : {M : Type 1} → statement M
 put-progress-spec =

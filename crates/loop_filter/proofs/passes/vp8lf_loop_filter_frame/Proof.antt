@@ -34,7 +34,7 @@ same-length-3 c = search needs
 
 returns : tie.Need-returns
 returns c =
-    let k = c .before .before .before .before .before .before .before .before .before in
+    let k = c .before .before .before .before .before .before .before .before .before .before in
     let s = k .before .before .before .before in
     let z = s .before .before .before .before .before .before .before in
     let x = z .args in

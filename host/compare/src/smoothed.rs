@@ -353,7 +353,7 @@ pub fn drawer(filter: Filter) -> Draw {
     })
 }
 
-/// Flat pictures with all inner edges: every position is smoothed, and they are counted without the model.
+/// Flat pictures with all inner edges: every position is smoothed, and their number follows from columns and rows alone.
 fn full(plan: &Plan, filter: Filter, kind: &mut Kind) -> Result<(), String> {
     let mut sizes = vec![(1, 1), (2, 2), (1024, 1), (1, 1024), (1024, 4)];
     if plan.long {

@@ -42,6 +42,8 @@ mag-neg-pos zero N h k = k
 mag-neg-pos (suc n) N h k = h
 
 mul-pos : (k A : ℕ) → 0 < k → 0 < A → 0 < k * A
+mul-pos zero A h i = elim h [ ]
+mul-pos (suc k) zero h i = elim i [ ]
 mul-pos (suc k) (suc A) h i = omega (arith, mul-le-mul_left (suc k) i)
 
 pub in-mul : (k : ℕ) (x : ℤ) {A : ℕ} → T (ltb 0 k) → mag x < A → mag (pos k *ℤ x) < k * A

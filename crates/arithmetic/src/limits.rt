@@ -2,7 +2,7 @@
 ghost use Rattle.std.specs.Prelude.{◌≡◌, ◌-◌, min};
 ghost use Rattle.arithmetic.specs.Limits as spec;
 
-#[derive(Drop)]
+#[derive(Clone, Copy)]
 pub struct LoopFilterParams {
     pub interior_limit: u8,
     pub hev_threshold: u8,

@@ -3,7 +3,7 @@ ghost use Rattle.std.specs.Prelude.{◌≡◌};
 ghost use Rattle.calls.specs.Answers.{pass_refusal_number};
 
 // Refusal 1, 2, 3, 5, 6 or 7.
-#[derive(Drop)]
+#[derive(Clone, Copy)]
 pub enum PassRefusal {
     TooLarge,
     BadStrides,
@@ -14,7 +14,7 @@ pub enum PassRefusal {
 }
 
 // Done, with the count of macroblocks done, the next start, and how many positions were smoothed; or refused.
-#[derive(Drop)]
+#[derive(Clone, Copy)]
 pub enum PassAnswer {
     Done {
         count: usize,

@@ -7,7 +7,7 @@ use crate::answers::PassRefusal;
 use planes::layout::PlaneLayout;
 
 // Leading rows that are final, in luma and in each chroma plane; or refusal 1, or 7.
-#[derive(Drop)]
+#[derive(Clone, Copy)]
 pub enum FinalRowsAnswer {
     FinalRows { luma: usize, chroma: usize },
     Refused(PassRefusal),

@@ -2,13 +2,13 @@
 use levels::modes::{IntraYMode, MaybeInter, MaybeRef};
 
 // A segment, or none. A segment above 3 counts as 3, and none as 0.
-#[derive(Drop)]
+#[derive(Clone, Copy)]
 pub enum MaybeSegment {
     Absent,
     Present(u8),
 }
 
-#[derive(Drop)]
+#[derive(Clone, Copy)]
 pub struct MacroblockModes {
     pub y_mode: IntraYMode,
     pub segment_id: MaybeSegment,

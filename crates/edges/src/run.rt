@@ -11,7 +11,7 @@ ghost use Rattle.edges.specs.Private.Runs.{SignedRows, SignedEight, SignedFour, 
 use arithmetic::signed::{at_most_123, clamp, filter_value, pick};
 
 // The limits of a normal edge.
-#[derive(Drop)]
+#[derive(Clone, Copy)]
 pub(crate) struct EdgeLimits {
     pub(crate) threshold: u8,
     pub(crate) interior: u8,
@@ -19,7 +19,7 @@ pub(crate) struct EdgeLimits {
 }
 
 // The six inner taps of a segment p3 .. q3.
-#[derive(Drop)]
+#[derive(Clone, Copy)]
 struct InnerTaps {
     p2: i16,
     p1: i16,
@@ -30,7 +30,7 @@ struct InnerTaps {
 }
 
 // The two inner taps of a segment p1 p0 q0 q1.
-#[derive(Drop)]
+#[derive(Clone, Copy)]
 struct EdgeTaps {
     p0: i16,
     q0: i16,

@@ -1,4 +1,6 @@
 // Figures M, N and O of document 01, executed.
+#![tactic(auto)]
+
 ghost use Rattle.std.specs.Prelude.{◌≤◌};
 
 use calls::answers::{PassAnswer, pass_refusal_number};

@@ -9,7 +9,7 @@ use planes::grid::{grid_refusal, zero_grid};
 use planes::layout::PlaneLayout;
 
 // The answer, and the macroblocks to do: `from` up to `to`, none where these are equal. Nothing is smoothed yet.
-#[derive(Drop)]
+#[derive(Clone, Copy)]
 pub struct Batch {
     pub answer: PassAnswer,
     pub from: usize,

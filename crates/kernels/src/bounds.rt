@@ -3,7 +3,7 @@ ghost use Rattle.std.specs.Prelude.{◌+◌, ◌*◌, ◌≤◌};
 ghost use Rattle.kernels.specs.Private.Taps.{Bounded};
 
 // The limits of a kernel, and what follows from them.
-#[derive(Drop)]
+#[derive(Clone, Copy)]
 pub(crate) struct Bounds {
     pub threshold: u8,
     pub interior: u8,

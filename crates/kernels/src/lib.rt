@@ -1,4 +1,6 @@
 // The kernels of the VP8 loop filter on one segment (RFC 6386, sections 15.2 and 15.3).
+#![tactic(auto)]
+
 pub mod answers;
 mod bounds;
 mod near;

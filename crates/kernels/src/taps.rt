@@ -4,7 +4,7 @@ ghost use Rattle.kernels.specs.Private.Taps as spec;
 
 use crate::near::both_near;
 
-#[derive(Drop)]
+#[derive(Clone, Copy)]
 pub(crate) struct Taps {
     pub p3: u8,
     pub p2: u8,

@@ -4,19 +4,19 @@ ghost use Rattle.levels.specs.Encodings.{mode_case, reference_case, inter_mode_c
 
 use crate::modes::{InterMode, IntraYMode, MaybeInter, MaybeRef, RefFrame};
 
-#[derive(Drop)]
+#[derive(Clone, Copy)]
 pub enum ModeCase {
     Mode(IntraYMode),
     NoMode,
 }
 
-#[derive(Drop)]
+#[derive(Clone, Copy)]
 pub enum ReferenceCase {
     Reference(MaybeRef),
     NoReference,
 }
 
-#[derive(Drop)]
+#[derive(Clone, Copy)]
 pub enum InterModeCase {
     Inter(MaybeInter),
     NoInter,

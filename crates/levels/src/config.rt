@@ -1,7 +1,7 @@
 // The settings of a frame's loop filter (RFC 6386, sections 9.3 and 9.4).
 use arithmetic::limits::LoopFilterParams;
 
-#[derive(Drop)]
+#[derive(Clone, Copy)]
 pub struct FrameFilterConfig {
     // filter_type: the simple filter, else the normal one.
     pub simple: bool,

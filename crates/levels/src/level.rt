@@ -11,7 +11,7 @@ use crate::modes::{InterMode, IntraYMode, MaybeInter, MaybeRef, RefFrame};
 use arithmetic::limits::LoopFilterParams;
 
 // The level, or refusal 6. `specs/Answers.antt` gives each case its number in document 01.
-#[derive(Drop)]
+#[derive(Clone, Copy)]
 pub enum LevelAnswer {
     Level(u8),
     BadEntry,

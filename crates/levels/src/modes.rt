@@ -1,5 +1,5 @@
 // How a macroblock was predicted: the cases that document 01's bytes stand for.
-#[derive(Drop)]
+#[derive(Clone, Copy)]
 pub enum IntraYMode {
     Dc,
     V,
@@ -8,14 +8,14 @@ pub enum IntraYMode {
     B,
 }
 
-#[derive(Drop)]
+#[derive(Clone, Copy)]
 pub enum RefFrame {
     Last,
     Golden,
     AltRef,
 }
 
-#[derive(Drop)]
+#[derive(Clone, Copy)]
 pub enum InterMode {
     Zero,
     Nearest,
@@ -25,14 +25,14 @@ pub enum InterMode {
 }
 
 // A reference, or none.
-#[derive(Drop)]
+#[derive(Clone, Copy)]
 pub enum MaybeRef {
     Absent,
     Present(RefFrame),
 }
 
 // An inter mode, or none.
-#[derive(Drop)]
+#[derive(Clone, Copy)]
 pub enum MaybeInter {
     Absent,
     Present(InterMode),

@@ -59,7 +59,7 @@ pub fn signed8(a: u8) -> i8 {
 }
 
 // Where and how a call works. `whole`: all of its bytes were there.
-#[derive(Drop)]
+#[derive(Clone, Copy)]
 pub struct Place {
     pub layout: PlaneLayout,
     pub start: usize,
@@ -111,7 +111,7 @@ fn settings_of(b: &[u8; 31]) -> FrameFilterConfig {
     }
 }
 
-#[derive(Drop)]
+#[derive(Clone, Copy)]
 pub struct Settings {
     pub config: FrameFilterConfig,
     pub whole: bool,
@@ -127,7 +127,7 @@ pub fn read_settings() -> Settings {
 }
 
 // A number of a refusal, or 0, and two numbers.
-#[derive(Drop)]
+#[derive(Clone, Copy)]
 pub struct Recorded {
     pub refusal: u8,
     pub first: usize,

@@ -1,7 +1,7 @@
 // Pictures of four macroblocks. The planes are longer than the grids need, so that strides can be wider; u and v differ in length, so that v alone can be too short.
 use crate::input::fill;
 
-#[derive(Drop)]
+#[derive(Clone, Copy)]
 pub struct Picture {
     pub y: [u8; 1280],
     pub u: [u8; 352],
@@ -59,7 +59,7 @@ pub fn same_picture(a: Picture, b: Picture) -> bool {
 }
 
 // Document 01's byte lists.
-#[derive(Drop)]
+#[derive(Clone, Copy)]
 pub struct Lists {
     pub modes: [u8; 4],
     pub segments: [u8; 4],

@@ -5,7 +5,7 @@ use frame::pass::{filter_frame, filter_inter_frame};
 use levels::config::FrameFilterConfig;
 use recording::input::{Place, fill, read_place, read_recorded, read_settings};
 
-#[derive(Drop)]
+#[derive(Clone, Copy)]
 struct Lists16 {
     modes: [u8; 16],
     segments: [u8; 16],
@@ -141,7 +141,7 @@ pub fn replay_film64(of_key: bool) -> bool {
     whole & answered(answer, r) & film64_left(&y, &u, &v)
 }
 
-#[derive(Drop)]
+#[derive(Clone, Copy)]
 struct Lists1 {
     modes: [u8; 1],
     segments: [u8; 1],

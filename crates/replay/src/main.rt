@@ -1,4 +1,6 @@
 // Replays recorded calls of the functions that the Rust has too, but for sums and searches, and of the frame calls, from standard input, and marks each that is answered as it was recorded.
+#![tactic(auto)]
+
 mod film;
 mod passes;
 mod records;

@@ -8,7 +8,7 @@ use recording::marks::mark;
 use recording::picture::{Lists, Picture, read_lists, read_picture, same_picture, stripes};
 
 // What a pass answers and leaves.
-#[derive(Drop)]
+#[derive(Clone, Copy)]
 pub struct Left {
     pub answer: PassAnswer,
     pub picture: Picture,

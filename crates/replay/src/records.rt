@@ -52,7 +52,7 @@ fn record(m: u8, present: u8, s: u8, flag: u8, r: u8, i: u8) -> MacroblockModes 
 }
 
 // One for each macroblock of a picture.
-#[derive(Drop)]
+#[derive(Clone, Copy)]
 pub struct Records {
     pub list: [MacroblockModes; 4],
     pub whole: bool,

@@ -1,4 +1,6 @@
 // Replays recorded sums and searches from standard input, and marks each that is answered as it was recorded.
+#![tactic(auto)]
+
 mod search_input;
 mod searches;
 

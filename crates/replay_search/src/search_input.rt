@@ -7,7 +7,7 @@ use search::answers::{LevelOnlyAnswer, ParamsAnswer};
 use sums::answers::{SumAnswer, search_refusal_number};
 
 // Scratch planes. y and u are shorter than those of a picture, so that they alone can be too short.
-#[derive(Drop)]
+#[derive(Clone, Copy)]
 pub struct Scratch {
     pub y: [u8; 1264],
     pub u: [u8; 344],
@@ -56,7 +56,7 @@ pub fn same_scratch(a: Scratch, b: Scratch) -> bool {
 }
 
 // The reconstruction's grid and settings, and the size and strides of the source.
-#[derive(Drop)]
+#[derive(Clone, Copy)]
 pub struct Task {
     pub layout: PlaneLayout,
     pub config: FrameFilterConfig,
@@ -86,7 +86,7 @@ pub fn read_task() -> Task {
 }
 
 // What a search answers: the number of a refusal, or 0; and the choice.
-#[derive(Drop)]
+#[derive(Clone, Copy)]
 pub struct Choice {
     pub refusal: u8,
     pub level: u8,

@@ -234,7 +234,7 @@ fn replay_sums(rec: Picture, src: Picture, t: Task, r: Recorded) {
 }
 
 // What a search answers and leaves.
-#[derive(Drop)]
+#[derive(Clone, Copy)]
 struct Found {
     choice: Choice,
     scratch: Scratch,

@@ -2,7 +2,7 @@
 use sums::answers::SearchRefusal;
 
 // The chosen level and sharpness, and the number of candidates scored at a level above 0; or a refusal.
-#[derive(Drop)]
+#[derive(Clone, Copy)]
 pub enum ParamsAnswer {
     Chosen {
         level: u8,
@@ -13,7 +13,7 @@ pub enum ParamsAnswer {
 }
 
 // The same without the sharpness.
-#[derive(Drop)]
+#[derive(Clone, Copy)]
 pub enum LevelOnlyAnswer {
     Chosen { level: u8, count: usize },
     Refused(SearchRefusal),

@@ -13,7 +13,7 @@ use scratch::either::either_pass;
 const HIGHEST_SHARPNESS: u8 = 7;
 
 // What a search is given besides the slices. `inter` tells the inter pass from the key pass.
-#[derive(Drop)]
+#[derive(Clone, Copy)]
 pub struct Setup {
     pub layout: PlaneLayout,
     pub config: FrameFilterConfig,

@@ -8,7 +8,7 @@ ghost use Rattle.search.specs.Private.SearchCode.{judged_of};
 use calls::answers::{PassAnswer, pass_refusal_number};
 use sums::answers::{SearchRefusal, SumAnswer, search_refusal_number};
 
-#[derive(Drop)]
+#[derive(Clone, Copy)]
 pub enum Judged {
     Refused(SearchRefusal),
     Accepted,

@@ -15,7 +15,7 @@ const LEVELS_END: usize = 80;
 pub(crate) const TRIALS: usize = 88;
 
 // The best candidate so far, its sum, the number of candidates scored at a level above 0, and the winner of the coarse levels.
-#[derive(Drop)]
+#[derive(Clone, Copy)]
 pub struct Best {
     pub level: u8,
     pub sharpness: u8,
@@ -25,7 +25,7 @@ pub struct Best {
 }
 
 // A candidate, or one to pass over.
-#[derive(Drop)]
+#[derive(Clone, Copy)]
 pub struct Trial {
     pub level: u8,
     pub sharpness: u8,

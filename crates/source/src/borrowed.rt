@@ -21,7 +21,7 @@ use sums::answers::SumAnswer;
 use sums::sums::reconstruction_ssd;
 
 // Width and height count luma samples.
-#[derive(Drop)]
+#[derive(Clone, Copy)]
 pub struct SourcePlanes<'a> {
     pub width: usize,
     pub height: usize,

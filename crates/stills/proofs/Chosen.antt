@@ -193,10 +193,10 @@ module _ (sum : Candidate → ℕ) (base : ℕ) (low : base ≤ 7) where
   abbrev In : Standing → Type 0
   In s = IsCandidate base s.best
 
-  at_base : (level : ℕ) → level ≤ 63 → IsCandidate base (at_base sum base level)
+  at_base-listed : (level : ℕ) → level ≤ 63 → IsCandidate base (at_base sum base level)
   unfolding IsCandidate
-  at_base zero h = inl (refl, refl)
-  at_base (suc l) h = inr (omega arith)
+  at_base-listed zero h = inl (refl, refl)
+  at_base-listed (suc l) h = inr (omega arith)
 
   considers : (P : Candidate → Type 0) (s : Standing) (c : Candidate) → P c → P s.best → P (consider sum base s c).best
   unfolding consider
@@ -213,14 +213,14 @@ module _ (sum : Candidate → ℕ) (base : ℕ) (low : base ≤ 7) where
   coarse-in : In (coarse sum base)
   unfolding coarse unfiltered
   coarse-in =
-      fold-keeps In 63 (λ s level. consider sum base s (at_base sum base level)) (λ s x h p. considers (IsCandidate base) s (at_base sum base x) (at_base x h) p)
-      coarse_levels coarse-listed (unfiltered sum base) (at_base 0 (omega arith))
+      fold-keeps In 63 (λ s level. consider sum base s (at_base sum base level)) (λ s x h p. considers (IsCandidate base) s (at_base sum base x) (at_base-listed x h) p)
+      coarse_levels coarse-listed (unfiltered sum base) (at_base-listed 0 (omega arith))
 
   refined-in : In (refined sum base)
   unfolding refined other_level
   refined-in =
       fold-keeps In 63 (other_level sum base)
-      (λ s x h p. either In (eqb x s.best.level) s (consider sum base s (at_base sum base x)) (λ e. p) (λ e. considers (IsCandidate base) s (at_base sum base x) (at_base x h) p))
+      (λ s x h p. either In (eqb x s.best.level) s (consider sum base s (at_base sum base x)) (λ e. p) (λ e. considers (IsCandidate base) s (at_base sum base x) (at_base-listed x h) p))
       (keep (near (coarse sum base).best.level) (upward 0 64)) (keep-up-to 63 (near (coarse sum base).best.level) (upward 0 64) levels-listed) (coarse sum base) coarse-in
 
   -- a level above 0, and a sharpness

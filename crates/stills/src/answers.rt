@@ -2,7 +2,7 @@
 use sums::answers::SearchRefusal;
 
 // The chosen level and sharpness, and their error sum; or a refusal.
-#[derive(Drop)]
+#[derive(Clone, Copy)]
 pub enum FullAnswer {
     Chosen { level: u8, sharpness: u8, sum: u64 },
     Refused(SearchRefusal),

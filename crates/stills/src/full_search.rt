@@ -27,7 +27,7 @@ const SHARPNESS_VALUES: usize = 8;
 const PAIRS: usize = 504;
 
 // The best candidate so far, and its sum.
-#[derive(Drop)]
+#[derive(Clone, Copy)]
 pub struct Best {
     pub level: u8,
     pub sharpness: u8,

@@ -3,7 +3,7 @@ ghost use Rattle.std.specs.Prelude.{◌≡◌};
 ghost use Rattle.sums.specs.Answers.{search_refusal_number};
 
 // Refusal 1, 2, 3, 6, 8, 9 or 10. A sum reads no entry and never gives 6.
-#[derive(Drop)]
+#[derive(Clone, Copy)]
 pub enum SearchRefusal {
     TooLarge,
     BadStrides,
@@ -15,7 +15,7 @@ pub enum SearchRefusal {
 }
 
 // The sum, or a refusal.
-#[derive(Drop)]
+#[derive(Clone, Copy)]
 pub enum SumAnswer {
     Sum(u64),
     Refused(SearchRefusal),

@@ -1,0 +1,11 @@
+use Rattle.std.proofs.Common.{true, rules}
+use Rattle.kernels.proofs.Cuts.{was-stored, was-kept}
+use Rattle.kernels.proofs.Filtered.{of-list}
+use Rattle.kernels.proofs.Decided.{high-two}
+use Rattle.kernels.proofs.passed.mb_high.Goals as goal
+
+pub returns-then-try2 : goal.returns-then-try2
+returns-then-try2 c =     
+    let x = c.args in
+    let r = c.try2.ensures in
+    high-two x.seg.now x.base x.w x.s c.requires.window true c.requires.w_value.0 c.requires.w_value.1 (r.told c.if-try2.true) _ (was-stored c.try2.result _ _ r.bytes c.if-try2.true)

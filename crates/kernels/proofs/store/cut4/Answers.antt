@@ -1,0 +1,49 @@
+use Rattle.std.proofs.Common.{◌+◌, set, ap, ◌∙◌, w64, rules}
+use Rattle.kernels.specs.Private.Windows.{cut}
+use Rattle.arithmetic.proofs.Ranges as R
+use Rattle.kernels.proofs.Cuts.{Plain, told, join, byte?, byte}
+use Rattle.kernels.proofs.store.cut4.Goals as goal
+
+pub overflow_cast-a : goal.overflow_cast-a
+overflow_cast-a c = byte? (R.held {w = w64} c.ranges.a) ((let fits-1 : ((Plain c.args.a × Plain c.args.b) × Plain c.args.c) × Plain c.args.d = join (join (join (told (R.held {w = w64} c.ranges.a) c.in_byte.ensures)
+    (told (R.held {w = w64} c.ranges.b) c.in_byte-2.ensures))
+    (told (R.held {w = w64} c.ranges.c) c.in_byte-3.ensures))
+    (told (R.held {w = w64} c.ranges.d) c.in_byte-4.ensures)
+    c.if-in_byte.true in fits-1)).0.0.0
+
+pub overflow_cast-b : goal.overflow_cast-b
+overflow_cast-b c = byte? (R.held {w = w64} c.ranges.b) ((let fits-2 : ((Plain c.args.a × Plain c.args.b) × Plain c.args.c) × Plain c.args.d = join (join (join (told (R.held {w = w64} c.ranges.a) c.in_byte.ensures)
+    (told (R.held {w = w64} c.ranges.b) c.in_byte-2.ensures))
+    (told (R.held {w = w64} c.ranges.c) c.in_byte-3.ensures))
+    (told (R.held {w = w64} c.ranges.d) c.in_byte-4.ensures)
+    c.if-in_byte.true in fits-2)).0.0.1
+
+pub overflow_cast-c : goal.overflow_cast-c
+overflow_cast-c c = byte? (R.held {w = w64} c.ranges.c) ((let fits-3 : ((Plain c.args.a × Plain c.args.b) × Plain c.args.c) × Plain c.args.d = join (join (join (told (R.held {w = w64} c.ranges.a) c.in_byte.ensures)
+    (told (R.held {w = w64} c.ranges.b) c.in_byte-2.ensures))
+    (told (R.held {w = w64} c.ranges.c) c.in_byte-3.ensures))
+    (told (R.held {w = w64} c.ranges.d) c.in_byte-4.ensures)
+    c.if-in_byte.true in fits-3)).0.1
+
+pub overflow_cast-d : goal.overflow_cast-d
+overflow_cast-d c = byte? (R.held {w = w64} c.ranges.d) ((let fits-4 : ((Plain c.args.a × Plain c.args.b) × Plain c.args.c) × Plain c.args.d = join (join (join (told (R.held {w = w64} c.ranges.a) c.in_byte.ensures)
+    (told (R.held {w = w64} c.ranges.b) c.in_byte-2.ensures))
+    (told (R.held {w = w64} c.ranges.c) c.in_byte-3.ensures))
+    (told (R.held {w = w64} c.ranges.d) c.in_byte-4.ensures)
+    c.if-in_byte.true in fits-4)).1
+
+pub returns-then-in_byte : goal.returns-then-in_byte
+returns-then-in_byte c =     
+    let x = c in
+    let f = (let fits-5 : ((Plain c.args.a × Plain c.args.b) × Plain c.args.c) × Plain c.args.d = join (join (join (told (R.held {w = w64} c.ranges.a) c.in_byte.ensures)
+    (told (R.held {w = w64} c.ranges.b) c.in_byte-2.ensures))
+    (told (R.held {w = w64} c.ranges.c) c.in_byte-3.ensures))
+    (told (R.held {w = w64} c.ranges.d) c.in_byte-4.ensures)
+    c.if-in_byte.true in fits-5) in
+    let at = x.args.at in
+    c.put4.ensures
+    ∙ (λ i. set (set (set (set x.args.seg.now
+    at (byte (R.held {w = w64} x.fits.a) f.0.0.0 i))
+    (at + 1) (byte (R.held {w = w64} x.fits.b) f.0.0.1 i))
+    (at + 2) (byte (R.held {w = w64} x.fits.c) f.0.1 i))
+    (at + 3) (byte (R.held {w = w64} x.fits.d) f.1 i))

@@ -1,0 +1,78 @@
+use Rattle.std.proofs.Common.{◌+◌, set, ◌∙◌, w64, rules}
+use Rattle.arithmetic.proofs.Ranges as R
+use Rattle.kernels.proofs.Cuts.{Plain, told, join, byte?, byte}
+use Rattle.kernels.proofs.store.plain6.Goals as goal
+
+pub overflow_cast-a : goal.overflow_cast-a
+overflow_cast-a c = byte? (R.held {w = w64} c.ranges.a) ((let fits-1 : ((((Plain c.args.a × Plain c.args.b) × Plain c.args.c) × Plain c.args.d) × Plain c.args.e) × Plain c.args.f = join (join (join (join (join (told (R.held {w = w64} c.ranges.a) c.in_byte.ensures)
+    (told (R.held {w = w64} c.ranges.b) c.in_byte-2.ensures))
+    (told (R.held {w = w64} c.ranges.c) c.in_byte-3.ensures))
+    (told (R.held {w = w64} c.ranges.d) c.in_byte-4.ensures))
+    (told (R.held {w = w64} c.ranges.e) c.in_byte-5.ensures))
+    (told (R.held {w = w64} c.ranges.f) c.in_byte-6.ensures)
+    c.if-in_byte.true in fits-1)).0.0.0.0.0
+
+pub overflow_cast-b : goal.overflow_cast-b
+overflow_cast-b c = byte? (R.held {w = w64} c.ranges.b) ((let fits-2 : ((((Plain c.args.a × Plain c.args.b) × Plain c.args.c) × Plain c.args.d) × Plain c.args.e) × Plain c.args.f = join (join (join (join (join (told (R.held {w = w64} c.ranges.a) c.in_byte.ensures)
+    (told (R.held {w = w64} c.ranges.b) c.in_byte-2.ensures))
+    (told (R.held {w = w64} c.ranges.c) c.in_byte-3.ensures))
+    (told (R.held {w = w64} c.ranges.d) c.in_byte-4.ensures))
+    (told (R.held {w = w64} c.ranges.e) c.in_byte-5.ensures))
+    (told (R.held {w = w64} c.ranges.f) c.in_byte-6.ensures)
+    c.if-in_byte.true in fits-2)).0.0.0.0.1
+
+pub overflow_cast-c : goal.overflow_cast-c
+overflow_cast-c c = byte? (R.held {w = w64} c.ranges.c) ((let fits-3 : ((((Plain c.args.a × Plain c.args.b) × Plain c.args.c) × Plain c.args.d) × Plain c.args.e) × Plain c.args.f = join (join (join (join (join (told (R.held {w = w64} c.ranges.a) c.in_byte.ensures)
+    (told (R.held {w = w64} c.ranges.b) c.in_byte-2.ensures))
+    (told (R.held {w = w64} c.ranges.c) c.in_byte-3.ensures))
+    (told (R.held {w = w64} c.ranges.d) c.in_byte-4.ensures))
+    (told (R.held {w = w64} c.ranges.e) c.in_byte-5.ensures))
+    (told (R.held {w = w64} c.ranges.f) c.in_byte-6.ensures)
+    c.if-in_byte.true in fits-3)).0.0.0.1
+
+pub overflow_cast-d : goal.overflow_cast-d
+overflow_cast-d c = byte? (R.held {w = w64} c.ranges.d) ((let fits-4 : ((((Plain c.args.a × Plain c.args.b) × Plain c.args.c) × Plain c.args.d) × Plain c.args.e) × Plain c.args.f = join (join (join (join (join (told (R.held {w = w64} c.ranges.a) c.in_byte.ensures)
+    (told (R.held {w = w64} c.ranges.b) c.in_byte-2.ensures))
+    (told (R.held {w = w64} c.ranges.c) c.in_byte-3.ensures))
+    (told (R.held {w = w64} c.ranges.d) c.in_byte-4.ensures))
+    (told (R.held {w = w64} c.ranges.e) c.in_byte-5.ensures))
+    (told (R.held {w = w64} c.ranges.f) c.in_byte-6.ensures)
+    c.if-in_byte.true in fits-4)).0.0.1
+
+pub overflow_cast-e : goal.overflow_cast-e
+overflow_cast-e c = byte? (R.held {w = w64} c.ranges.e) ((let fits-5 : ((((Plain c.args.a × Plain c.args.b) × Plain c.args.c) × Plain c.args.d) × Plain c.args.e) × Plain c.args.f = join (join (join (join (join (told (R.held {w = w64} c.ranges.a) c.in_byte.ensures)
+    (told (R.held {w = w64} c.ranges.b) c.in_byte-2.ensures))
+    (told (R.held {w = w64} c.ranges.c) c.in_byte-3.ensures))
+    (told (R.held {w = w64} c.ranges.d) c.in_byte-4.ensures))
+    (told (R.held {w = w64} c.ranges.e) c.in_byte-5.ensures))
+    (told (R.held {w = w64} c.ranges.f) c.in_byte-6.ensures)
+    c.if-in_byte.true in fits-5)).0.1
+
+pub overflow_cast-f : goal.overflow_cast-f
+overflow_cast-f c = byte? (R.held {w = w64} c.ranges.f) ((let fits-6 : ((((Plain c.args.a × Plain c.args.b) × Plain c.args.c) × Plain c.args.d) × Plain c.args.e) × Plain c.args.f = join (join (join (join (join (told (R.held {w = w64} c.ranges.a) c.in_byte.ensures)
+    (told (R.held {w = w64} c.ranges.b) c.in_byte-2.ensures))
+    (told (R.held {w = w64} c.ranges.c) c.in_byte-3.ensures))
+    (told (R.held {w = w64} c.ranges.d) c.in_byte-4.ensures))
+    (told (R.held {w = w64} c.ranges.e) c.in_byte-5.ensures))
+    (told (R.held {w = w64} c.ranges.f) c.in_byte-6.ensures)
+    c.if-in_byte.true in fits-6)).1
+
+pub returns-then-in_byte : goal.returns-then-in_byte
+returns-then-in_byte c =     
+    let x = c in
+    let f = (let fits-7 : ((((Plain c.args.a × Plain c.args.b) × Plain c.args.c) × Plain c.args.d) × Plain c.args.e) × Plain c.args.f = join (join (join (join (join (told (R.held {w = w64} c.ranges.a) c.in_byte.ensures)
+    (told (R.held {w = w64} c.ranges.b) c.in_byte-2.ensures))
+    (told (R.held {w = w64} c.ranges.c) c.in_byte-3.ensures))
+    (told (R.held {w = w64} c.ranges.d) c.in_byte-4.ensures))
+    (told (R.held {w = w64} c.ranges.e) c.in_byte-5.ensures))
+    (told (R.held {w = w64} c.ranges.f) c.in_byte-6.ensures)
+    c.if-in_byte.true in fits-7) in
+    let at = x.args.at in
+    c.put6.ensures
+    ∙ (λ i. set (set (set (set (set (set x.args.seg.now
+    at (byte (R.held {w = w64} x.fits.a) f.0.0.0.0.0 i))
+    (at + 1) (byte (R.held {w = w64} x.fits.b) f.0.0.0.0.1 i))
+    (at + 2) (byte (R.held {w = w64} x.fits.c) f.0.0.0.1 i))
+    (at + 3) (byte (R.held {w = w64} x.fits.d) f.0.0.1 i))
+    (at + 4) (byte (R.held {w = w64} x.fits.e) f.0.1 i))
+    (at + 5) (byte (R.held {w = w64} x.fits.f) f.1 i))

@@ -8,4 +8,4 @@ pub returns-then-try2 : goal.returns-then-try2
 returns-then-try2 c =     
     let x = c.args in
     let r = c.try2.ensures in
-    high-two x.seg.now x.base x.w x.s c.requires.window false c.requires.w_value.0 c.requires.w_value.1 (r.told c.if-try2.true) _ (was-stored c.try2.result _ _ r.bytes c.if-try2.true)
+    high-two x.seg.now x.base x.w x.s c.requires.window false c.requires.w_value c.requires.w_value_2 (r.told c.if-try2.true) _ (was-stored c.try2.result _ _ r.bytes c.if-try2.true)

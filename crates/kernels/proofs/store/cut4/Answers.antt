@@ -34,16 +34,15 @@ overflow_cast-d c = byte? (R.held {w = w64} c.ranges.d) ((let fits-4 : ((Plain c
 
 pub returns-then-in_byte : goal.returns-then-in_byte
 returns-then-in_byte c =     
-    let x = c in
     let f = (let fits-5 : ((Plain c.args.a × Plain c.args.b) × Plain c.args.c) × Plain c.args.d = join (join (join (told (R.held {w = w64} c.ranges.a) c.in_byte.ensures)
     (told (R.held {w = w64} c.ranges.b) c.in_byte-2.ensures))
     (told (R.held {w = w64} c.ranges.c) c.in_byte-3.ensures))
     (told (R.held {w = w64} c.ranges.d) c.in_byte-4.ensures)
     c.if-in_byte.true in fits-5) in
-    let at = x.args.at in
+    let at = c.args.at in
     c.put4.ensures
-    ∙ (λ i. set (set (set (set x.args.seg.now
-    at (byte (R.held {w = w64} x.fits.a) f.0.0.0 i))
-    (at + 1) (byte (R.held {w = w64} x.fits.b) f.0.0.1 i))
-    (at + 2) (byte (R.held {w = w64} x.fits.c) f.0.1 i))
-    (at + 3) (byte (R.held {w = w64} x.fits.d) f.1 i))
+    ∙ (λ i. set (set (set (set c.args.seg.now
+    at (byte (R.held {w = w64} c.ranges.a) f.0.0.0 i))
+    (at + 1) (byte (R.held {w = w64} c.ranges.b) f.0.0.1 i))
+    (at + 2) (byte (R.held {w = w64} c.ranges.c) f.0.1 i))
+    (at + 3) (byte (R.held {w = w64} c.ranges.d) f.1 i))

@@ -15,12 +15,11 @@ overflow_cast-b c = byte? (R.held {w = w64} c.ranges.b) ((let fits-2 : Plain c.a
 
 pub returns-then-in_byte : goal.returns-then-in_byte
 returns-then-in_byte c =     
-    let x = c in
     let f = (let fits-3 : Plain c.args.a × Plain c.args.b = join (told (R.held {w = w64} c.ranges.a) c.in_byte.ensures)
     (told (R.held {w = w64} c.ranges.b) c.in_byte-2.ensures)
     c.if-in_byte.true in fits-3) in
-    let at = x.args.at in
+    let at = c.args.at in
     c.put2.ensures
-    ∙ (λ i. set (set x.args.seg.now
-    at (byte (R.held {w = w64} x.fits.a) f.0 i))
-    (at + 1) (byte (R.held {w = w64} x.fits.b) f.1 i))
+    ∙ (λ i. set (set c.args.seg.now
+    at (byte (R.held {w = w64} c.ranges.a) f.0 i))
+    (at + 1) (byte (R.held {w = w64} c.ranges.b) f.1 i))

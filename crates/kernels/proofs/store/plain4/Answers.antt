@@ -21,14 +21,13 @@ overflow_cast-d c = byte? (R.held {w = w64} c.ranges.d) ((let fits-2 : Plain c.a
 
 pub returns-then-in_byte : goal.returns-then-in_byte
 returns-then-in_byte c =     
-    let x = c in
     let f = (let fits-3 : Plain c.args.a × Plain c.args.d = join (told (R.held {w = w64} c.ranges.a) c.in_byte.ensures)
     (told (R.held {w = w64} c.ranges.d) c.in_byte-2.ensures)
     c.if-in_byte.true in fits-3) in
-    let at = x.args.at in
+    let at = c.args.at in
     c.put4.ensures
-    ∙ (λ i. set (set (set (set x.args.seg.now
-    at (byte (R.held {w = w64} x.fits.a) f.0 i))
-    (at + 1) (byte (R.held {w = w64} x.fits.b) (in-byte _ x.pre.1.0) i))
-    (at + 2) (byte (R.held {w = w64} x.fits.c) (in-byte _ x.pre.1.1) i))
-    (at + 3) (byte (R.held {w = w64} x.fits.d) f.1 i))
+    ∙ (λ i. set (set (set (set c.args.seg.now
+    at (byte (R.held {w = w64} c.ranges.a) f.0 i))
+    (at + 1) (byte (R.held {w = w64} c.ranges.b) (in-byte _ c.pre.1.0) i))
+    (at + 2) (byte (R.held {w = w64} c.ranges.c) (in-byte _ c.pre.1.1) i))
+    (at + 3) (byte (R.held {w = w64} c.ranges.d) f.1 i))

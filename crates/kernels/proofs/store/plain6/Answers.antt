@@ -59,7 +59,6 @@ overflow_cast-f c = byte? (R.held {w = w64} c.ranges.f) ((let fits-6 : ((((Plain
 
 pub returns-then-in_byte : goal.returns-then-in_byte
 returns-then-in_byte c =     
-    let x = c in
     let f = (let fits-7 : ((((Plain c.args.a × Plain c.args.b) × Plain c.args.c) × Plain c.args.d) × Plain c.args.e) × Plain c.args.f = join (join (join (join (join (told (R.held {w = w64} c.ranges.a) c.in_byte.ensures)
     (told (R.held {w = w64} c.ranges.b) c.in_byte-2.ensures))
     (told (R.held {w = w64} c.ranges.c) c.in_byte-3.ensures))
@@ -67,12 +66,12 @@ returns-then-in_byte c =
     (told (R.held {w = w64} c.ranges.e) c.in_byte-5.ensures))
     (told (R.held {w = w64} c.ranges.f) c.in_byte-6.ensures)
     c.if-in_byte.true in fits-7) in
-    let at = x.args.at in
+    let at = c.args.at in
     c.put6.ensures
-    ∙ (λ i. set (set (set (set (set (set x.args.seg.now
-    at (byte (R.held {w = w64} x.fits.a) f.0.0.0.0.0 i))
-    (at + 1) (byte (R.held {w = w64} x.fits.b) f.0.0.0.0.1 i))
-    (at + 2) (byte (R.held {w = w64} x.fits.c) f.0.0.0.1 i))
-    (at + 3) (byte (R.held {w = w64} x.fits.d) f.0.0.1 i))
-    (at + 4) (byte (R.held {w = w64} x.fits.e) f.0.1 i))
-    (at + 5) (byte (R.held {w = w64} x.fits.f) f.1 i))
+    ∙ (λ i. set (set (set (set (set (set c.args.seg.now
+    at (byte (R.held {w = w64} c.ranges.a) f.0.0.0.0.0 i))
+    (at + 1) (byte (R.held {w = w64} c.ranges.b) f.0.0.0.0.1 i))
+    (at + 2) (byte (R.held {w = w64} c.ranges.c) f.0.0.0.1 i))
+    (at + 3) (byte (R.held {w = w64} c.ranges.d) f.0.0.1 i))
+    (at + 4) (byte (R.held {w = w64} c.ranges.e) f.0.1 i))
+    (at + 5) (byte (R.held {w = w64} c.ranges.f) f.1 i))

@@ -16,6 +16,15 @@ overflow_add-a c = R.add? ((let value-21 : R.Is w64 (of_z w64 c.step-a.result) (
 pub overflow_add-a-2 : goal.overflow_add-a-2
 overflow_add-a-2 c = R.add? ((let value-41 : R.Is w64 (of_z w64 c.step-a.result) (step_of ((let w-42 : Taps = c.args.w in w-42)).p0 ((let w-43 : Taps = c.args.w in w-43)).q0) 1536 = R.got c.step-a.type_inv c.step-a.ensures (step_in ((let w-44 : Taps = c.args.w in w-44)).p0 ((let w-45 : Taps = c.args.w in w-45)).q0 (let p0-46 : ((let w-47 : Taps = c.args.w in w-47)).p0 < 256 = search rules in p0-46) (let q0-48 : ((let w-49 : Taps = c.args.w in w-49)).q0 < 256 = search rules in q0-48)) in value-41)) (R.lit w64 4 tt) tt
 
+pub plain4-requires-clause-b_value : goal.plain4-requires-clause-b_value
+plain4-requires-clause-b_value c = ((
+      search rules,
+      (
+        ap in_byte (R.add (R.sample ((let p0-72 : ((let w-73 : Taps = c.args.w in w-73)).p0 < 256 = search rules in p0-72))) (R.shr 8 (R.add ((let value-74 : R.Is w64 (of_z w64 c.step-a.result) (step_of ((let w-75 : Taps = c.args.w in w-75)).p0 ((let w-76 : Taps = c.args.w in w-76)).q0) 1536 = R.got c.step-a.type_inv c.step-a.ensures (step_in ((let w-77 : Taps = c.args.w in w-77)).p0 ((let w-78 : Taps = c.args.w in w-78)).q0 (let p0-79 : ((let w-80 : Taps = c.args.w in w-80)).p0 < 256 = search rules in p0-79) (let q0-81 : ((let w-82 : Taps = c.args.w in w-82)).q0 < 256 = search rules in q0-81)) in value-74)) (R.lit w64 3 tt) tt) tt) tt).val ∙ byte-in _ (toward ((let w-83 : Taps = c.args.w in w-83)).p0 ((let w-84 : Taps = c.args.w in w-84)).q0 ((let p0-85 : ((let w-86 : Taps = c.args.w in w-86)).p0 < 256 = search rules in p0-85)) ((let q0-87 : ((let w-88 : Taps = c.args.w in w-88)).q0 < 256 = search rules in q0-87))).gained,
+        ap in_byte (R.sub (R.sample ((let q0-89 : ((let w-90 : Taps = c.args.w in w-90)).q0 < 256 = search rules in q0-89))) (R.shr 8 (R.add ((let value-91 : R.Is w64 (of_z w64 c.step-a.result) (step_of ((let w-92 : Taps = c.args.w in w-92)).p0 ((let w-93 : Taps = c.args.w in w-93)).q0) 1536 = R.got c.step-a.type_inv c.step-a.ensures (step_in ((let w-94 : Taps = c.args.w in w-94)).p0 ((let w-95 : Taps = c.args.w in w-95)).q0 (let p0-96 : ((let w-97 : Taps = c.args.w in w-97)).p0 < 256 = search rules in p0-96) (let q0-98 : ((let w-99 : Taps = c.args.w in w-99)).q0 < 256 = search rules in q0-98)) in value-91)) (R.lit w64 4 tt) tt) tt) tt).val ∙ byte-in _ (toward ((let w-100 : Taps = c.args.w in w-100)).p0 ((let w-101 : Taps = c.args.w in w-101)).q0 ((let p0-102 : ((let w-103 : Taps = c.args.w in w-103)).p0 < 256 = search rules in p0-102)) ((let q0-104 : ((let w-105 : Taps = c.args.w in w-105)).q0 < 256 = search rules in q0-104))).lost,
+      ),
+    )).1
+
 pub returns : goal.returns
 unfolding plain_four
 returns c =     

@@ -12,14 +12,14 @@ overflow_cast-result c = R.cast? (R.got {w = w64} c.common_adjust_at.type_inv c.
 
 pub returns-then-has_window-clause-result_value : goal.returns-then-has_window-clause-result_value
 unfolding adjust_outcome half taps fits_at windowed adjust_answer
-returns-then-has_window-clause-result_value c =     
+returns-then-has_window-clause-result_value c =
     let h = c.has_window.ensures in
     let a = R.cast {w' = w32} (R.got {w = w64} c.common_adjust_at.type_inv c.common_adjust_at.ensures.value (adjustment-in _ _ _ _ _)) tt in
     ap gives a.val ∙ sym (taken _ _ h c.if-has_window.true)
 
 pub returns-then-has_window-clause-seg_after : goal.returns-then-has_window-clause-seg_after
 unfolding adjust_outcome half taps fits_at windowed adjust_answer
-returns-then-has_window-clause-seg_after c =     
+returns-then-has_window-clause-seg_after c =
     let h = c.has_window.ensures in
     let a = R.cast {w' = w32} (R.got {w = w64} c.common_adjust_at.type_inv c.common_adjust_at.ensures.value (adjustment-in _ _ _ _ _)) tt in
     c.common_adjust_at.ensures.seg_after ∙ sym (taken _ _ h c.if-has_window.true)

@@ -5,10 +5,10 @@ use Rattle.kernels.proofs.whole.soften.Goals as goal
 
 pub returns-then-low_variance : goal.returns-then-low_variance
 unfolding softened
-returns-then-low_variance c =     
+returns-then-low_variance c =
     c.soften_four.ensures ∙ sym (taken _ _ c.low_variance.ensures c.if-low_variance.true)
 
 pub returns-else-low_variance : goal.returns-else-low_variance
 unfolding softened
-returns-else-low_variance c =     
+returns-else-low_variance c =
     c.adjust.ensures.seg_after ∙ sym (left _ _ c.low_variance.ensures c.if-low_variance.false)

@@ -3,12 +3,12 @@ use Rattle.kernels.proofs.Filtered.{by-edge, far}
 use Rattle.kernels.proofs.whole.subblock_filter_at.Goals as goal
 
 pub returns-then-neighbours_near : goal.returns-then-neighbours_near
-returns-then-neighbours_near c =     
+returns-then-neighbours_near c =
     let x = c.args in
     let e = c.subblock_at_edge.ensures in
-    by-edge x.seg.now x.base false x.threshold x.interior x.edge (sym c.neighbours_near.ensures ∙ c.if-neighbours_near.true) _ _ e.0 e.1
+    by-edge x.seg.now x.base false x.threshold x.interior x.edge (sym c.neighbours_near.ensures ∙ c.if-neighbours_near.true) _ _ e.value e.seg_after
 
 pub returns-else-neighbours_near : goal.returns-else-neighbours_near
-returns-else-neighbours_near c =     
+returns-else-neighbours_near c =
     let x = c.args in
     far x.seg.now x.base false x.threshold x.interior x.edge (sym c.neighbours_near.ensures ∙ c.if-neighbours_near.false)

@@ -1,0 +1,9 @@
+use mathlib.Core.Path.{ap, ◌∙◌}
+use borrow.Author.Rules.{rules}
+use Rattle.levels.specs.Levels.{clamp_level, segment_level}
+use Rattle.arithmetic.proofs.Ranges as R
+use Rattle.levels.proofs.level.segment_level.Goals as goal
+
+pub returns : goal.returns
+unfolding segment_level
+returns c = c.clamp_level.ensures ∙ ap clamp_level (R.gave c.base_level-base.type_inv c.base_level-base.ensures).val

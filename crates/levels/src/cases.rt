@@ -23,6 +23,7 @@ pub enum InterModeCase {
 }
 
 // A byte above 4 has none.
+#[tactic(auto, unfolding(crate::specs::Encodings::mode_case))]
 pub fn mode_case(byte: u8) -> ModeCase
     ensures { result ≡ mode_case byte }
 {
@@ -37,6 +38,7 @@ pub fn mode_case(byte: u8) -> ModeCase
 }
 
 // A byte above 3 has none.
+#[tactic(auto, unfolding(crate::specs::Encodings::reference_case))]
 pub fn reference_case(byte: u8) -> ReferenceCase
     ensures { result ≡ reference_case byte }
 {
@@ -50,6 +52,7 @@ pub fn reference_case(byte: u8) -> ReferenceCase
 }
 
 // A byte above 5 has none.
+#[tactic(auto, unfolding(crate::specs::Encodings::inter_mode_case))]
 pub fn inter_mode_case(byte: u8) -> InterModeCase
     ensures { result ≡ inter_mode_case byte }
 {

@@ -42,6 +42,7 @@ fn segment_index(segment: u8) -> usize
 }
 
 // What the settings hold for the segment.
+#[tactic(auto, unfolding(crate::specs::Levels::segment_number))]
 fn segment_number(config: FrameFilterConfig, segment: u8) -> i16
     ensures { result ≡ spec.segment_number config segment }
 {
@@ -81,6 +82,7 @@ fn segment_level(config: FrameFilterConfig, segment: u8) -> u8
 }
 
 // Without a reference the current frame's delta, else that of Last, Golden or AltRef.
+#[tactic(auto, unfolding(crate::specs::Levels::ref_delta))]
 fn ref_delta(config: FrameFilterConfig, reference: MaybeRef) -> i16
     ensures { result ≡ spec.ref_delta config reference }
 {
@@ -95,6 +97,7 @@ fn ref_delta(config: FrameFilterConfig, reference: MaybeRef) -> i16
 }
 
 // Of a macroblock with no reference: the B delta if the mode is B.
+#[tactic(auto, unfolding(crate::specs::Levels::intra_mode_delta))]
 fn intra_mode_delta(config: FrameFilterConfig, mode: IntraYMode) -> i16
     ensures { result ≡ spec.intra_mode_delta config mode }
 {
@@ -108,6 +111,7 @@ fn intra_mode_delta(config: FrameFilterConfig, mode: IntraYMode) -> i16
 }
 
 // Of a macroblock with a reference: the Zero, the Split or the other delta.
+#[tactic(auto, unfolding(crate::specs::Levels::inter_mode_delta))]
 fn inter_mode_delta(config: FrameFilterConfig, inter_mode: MaybeInter) -> i16
     ensures { result ≡ spec.inter_mode_delta config inter_mode }
 {
@@ -123,6 +127,7 @@ fn inter_mode_delta(config: FrameFilterConfig, inter_mode: MaybeInter) -> i16
     }
 }
 
+#[tactic(auto, unfolding(crate::specs::Levels::mode_delta))]
 fn mode_delta(
     config: FrameFilterConfig,
     reference: MaybeRef,

@@ -6,7 +6,7 @@ use Rattle.levels.proofs.Levels as L
 use Rattle.levels.proofs.level.base_level.Goals as goal
 
 pub returns-then-config : goal.returns-then-config
-returns-then-config c =     (R.gave c.level_in_segment.type_inv c.level_in_segment.ensures).val
+returns-then-config c =     (R.gave {w = w32} c.level_in_segment.type_inv c.level_in_segment.ensures).val
     ∙ sym (L.with-segments c.args.config c.args.segment c.if-config.true)
 
 pub returns-else-config : goal.returns-else-config

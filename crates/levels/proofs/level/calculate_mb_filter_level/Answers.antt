@@ -7,10 +7,10 @@ use Rattle.levels.proofs.level.calculate_mb_filter_level.Goals as goal
 pub returns-in_default : goal.returns-in_default
 unfolding level_outcome
 returns-in_default c =
-    L.key-refuses c.args.config c.args.segment c.args.mode (sym c.mode_case.ensures ∙ c.enum_told-1.given.1)
+    L.key-refuses c.args.config c.args.segment c.args.mode (sym c.mode_case.ensures ∙ c.in_default.is)
 
 pub returns : goal.returns
 unfolding level_outcome
 returns c =
     L.key-gives c.args.config c.args.segment c.args.mode _ c.key_mb_level-key_level.result
-    (sym c.mode_case.ensures ∙ c.y_mode-1.given.1) c.key_mb_level-key_level.ensures
+    (sym c.mode_case.ensures ∙ c.in-Mode.is) c.key_mb_level-key_level.ensures

@@ -1,3 +1,4 @@
+use mir.Syntax.{w32}
 use mathlib.Core.Path.{ap, ◌∙◌}
 use lib.IntN.{nat_abs}
 use borrow.Author.Rules.{rules}
@@ -7,4 +8,4 @@ use Rattle.levels.proofs.level.mb_level.Goals as goal
 
 pub returns : goal.returns
 unfolding inter_level
-returns c = ap nat_abs (c.clamp_level.ensures ∙ ap clamp_level (R.gave c.adjusted_level-adjusted.type_inv c.adjusted_level-adjusted.ensures).val)
+returns c = ap nat_abs (c.clamp_level.ensures ∙ ap clamp_level (R.gave {w = w32} c.adjusted_level-adjusted.type_inv c.adjusted_level-adjusted.ensures).val)

@@ -1,3 +1,4 @@
+use mir.Syntax.{w32}
 use mathlib.Core.Path.{ap, ◌∙◌}
 use borrow.Author.Rules.{rules}
 use Rattle.levels.specs.Levels.{clamp_level, segment_level}
@@ -6,4 +7,4 @@ use Rattle.levels.proofs.level.segment_level.Goals as goal
 
 pub returns : goal.returns
 unfolding segment_level
-returns c = c.clamp_level.ensures ∙ ap clamp_level (R.gave c.base_level-base.type_inv c.base_level-base.ensures).val
+returns c = c.clamp_level.ensures ∙ ap clamp_level (R.gave {w = w32} c.base_level-base.type_inv c.base_level-base.ensures).val

@@ -100,7 +100,7 @@ unfolding larger
 larger-no a b e = rw e
 
 pub max-below : (a b n : ℕ) → a < n → b < n → max a b < n
-max-below a b zero h k = elim h [ ]
+max-below a b Prim.Native.Nat.zero h k = elim h [ ]
 max-below a b (suc n) h k = suc-le-suc (max-le (le_of_suc-le-suc h) (le_of_suc-le-suc k))
 
 -- the result of `larger` of two such distances

@@ -1,0 +1,15 @@
+use mathlib.Core.Path.{◌≡◌, ◌∙◌}
+use mathlib.Core.List.{[]}
+use Prim.Native.Nat.{ℕ, ◌-◌, ◌≤◌, ◌<◌}
+use native.Mathlib.Omega.{arith}
+use lib.ListN.{length, get_or}
+use Rattle.kernels.specs.Segment.{mb_filter}
+use Rattle.kernels.proofs.SegmentLaws.{mark-most}
+use Rattle.edges.specs.Private.Runs.{yes_of, marks_of}
+use Rattle.edges.proofs.ArrayRows.{rows-many, row-long}
+use Rattle.edges.proofs.RunTurns.{run_to, run_none, run-turn, run_end, marks-none, marks-turn, marks-most}
+use Rattle.edges.proofs.run.mb_run8.Given as goal
+
+abbrev pub invariant-loop-n : goal.invariant-loop-n
+invariant-loop-n l =
+    (l.n ≤ 8) × (l.rows ≡ run_to (mb_filter l.edge.threshold l.edge.interior l.edge.limit) l.n l.taps) × (l.marks ≡ marks_of (yes_of l.edge.interior l.edge.limit l.taps) l.n)

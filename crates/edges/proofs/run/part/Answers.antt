@@ -1,0 +1,14 @@
+use mathlib.Core.Path.{◌∙◌}
+use native.Mathlib.Omega.{arith}
+use lib.IntN.{pos}
+use mir.Syntax.{w16}
+use Rattle.arithmetic.proofs.Ranges as R
+use Rattle.kernels.proofs.Cuts.{part-is}
+use Rattle.edges.proofs.TapNumbers as N
+use borrow.Author.Rules.{rules}
+use Rattle.edges.proofs.run.part.Goals as goal
+
+pub returns : goal.returns
+returns c =
+    let factor : R.Is w16 c.args.k (pos c.args.k) 28 = R.of_u w16 tt (omega (arith, c.requires.k_bound)) in
+    let p = R.add (R.mul_u factor (N.tap c.args.w c.requires.w_bound) tt) (R.lit w16 63 tt) tt in (R.shr 128 p tt).val ∙ part-is c.args.k c.args.w p tt

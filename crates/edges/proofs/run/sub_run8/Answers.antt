@@ -1,0 +1,36 @@
+use mathlib.Core.Path.{◌≡◌, ◌∙◌}
+use mathlib.Core.List.{[]}
+use Prim.Native.Nat.{ℕ, ◌-◌, ◌≤◌, ◌<◌}
+use native.Mathlib.Omega.{arith}
+use lib.ListN.{length, get_or}
+use Rattle.kernels.specs.Segment.{subblock_filter}
+use Rattle.kernels.proofs.SegmentLaws.{mark-most}
+use Rattle.edges.specs.Private.Runs.{yes_of, marks_of}
+use Rattle.edges.proofs.ArrayRows.{rows-many, row-long}
+use Rattle.edges.proofs.RunTurns.{run_to, run_none, run-turn, run_end, marks-none, marks-turn, marks-most}
+use Rattle.edges.proofs.run.sub_run8.Goals as goal
+
+pub loop-n-init : goal.loop-n-init
+loop-n-init c =     let x = c.args in
+    (omega arith, run_none _ _ (rows-many 8 8 x.t1 _ c.well_formed.0), marks-none (yes_of x.edge.interior x.edge.limit x.t1))
+
+pub overflow_add-marks : goal.overflow_add-marks
+overflow_add-marks c =
+    let x = c.args in
+    omega (arith, c.loop-n-test.true, c.loop-n.invariant.2, marks-most (yes_of x.edge.interior x.edge.limit x.taps) c.loop-n.n, c.mark_at8-marks.ensures, mark-most (yes_of x.edge.interior x.edge.limit x.taps c.loop-n.n))
+
+pub loop-n-preserved : goal.loop-n-preserved
+loop-n-preserved c =
+    let long : (k : ℕ) → k < 8 → length (get_or c.args.taps k []) ≡ 8 = row-long 8 8 c.args.taps _ c.well_formed.0 in
+    let x = c.args in (
+      omega (arith, c.loop-n-test.true),
+      run-turn (subblock_filter x.edge.threshold x.edge.interior x.edge.limit) 8 c.loop-n.n x.taps c.loop-n.rows _ c.sub_at8-s.result long c.loop-n-test.true c.loop-n.invariant.1 c.sub_at8-s.ensures c.set_inner8.ensures,
+      marks-turn (yes_of x.edge.interior x.edge.limit x.taps) c.loop-n.n c.loop-n.marks c.mark_at8-marks.result c.loop-n.invariant.2 c.mark_at8-marks.ensures,
+    )
+
+pub returns-clause-value : goal.returns-clause-value
+returns-clause-value c =
+    let long : (k : ℕ) → k < 8 → length (get_or c.args.taps k []) ≡ 8 = row-long 8 8 c.args.taps _ c.well_formed.0 in
+    let x = c.args in
+    let e : c.loop-n.n ≡ 8 = omega arith in
+    run_end (subblock_filter x.edge.threshold x.edge.interior x.edge.limit) 8 c.loop-n.n x.taps c.loop-n.rows long e c.loop-n.invariant.1

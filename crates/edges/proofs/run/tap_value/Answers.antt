@@ -1,0 +1,17 @@
+use mathlib.Core.Path.{◌∙◌}
+use mathlib.Core.Bool.{cond}
+use lib.IntN.{pos, ◌+ℤ◌, ◌*ℤ◌}
+use mir.Syntax.{w16}
+use Rattle.arithmetic.proofs.Ranges as R
+use Rattle.edges.proofs.TapNumbers as N
+use Rattle.arithmetic.specs.Numbers.{clamp}
+use Rattle.kernels.specs.Kernels.{filter_value}
+use borrow.Author.Rules.{rules}
+use Rattle.edges.proofs.run.tap_value.Goals as goal
+
+pub returns : goal.returns
+unfolding filter_value
+returns c =
+    let o = (R.sub (N.tap c.args.p1 c.requires.p1-in) (N.tap c.args.q1 c.requires.q1-in) tt).val in
+    let d = (R.sub (N.tap c.args.q0 c.requires.q0-in) (N.tap c.args.p0 c.requires.p0-in) tt).val in
+    (N.known {A = 128} tt (c.filter_value.ensures ∙ (λ i. clamp (cond c.args.outer (clamp (o i)) (pos 0) +ℤ pos 3 *ℤ d i))) (R.clamp-in _)).val

@@ -1,0 +1,15 @@
+use mathlib.Core.Path.{◌≡◌, refl}
+use Prim.Native.Nat.{◌+◌, ◌-◌, ◌≤◌}
+use native.Mathlib.Omega.{arith}
+use lib.ListN.{length, get_or}
+use mir.Syntax.{w16}
+use Rattle.arithmetic.specs.Tables.{fill}
+use Rattle.arithmetic.proofs.Ranges as R
+use Rattle.arithmetic.specs.Numbers.{u2s}
+use Rattle.edges.specs.Private.Runs.{row_at}
+use Rattle.arithmetic.proofs.Tables.{fill_none, fill-turn, fill_end}
+use Rattle.edges.proofs.taps.gather16.Given as goal
+
+abbrev pub invariant-loop-n : goal.invariant-loop-n
+invariant-loop-n l =
+    (l.n ≤ 16) × (l.row ≡ fill l.n (λ j. u2s (get_or l.plane (l.at + j) 0)) l.initial.row) × (length l.initial.row ≡ 16)

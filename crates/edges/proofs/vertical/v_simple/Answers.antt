@@ -1,0 +1,30 @@
+use mathlib.Core.Path.{◌≡◌, refl, sym, ap, ◌∙◌}
+use Prim.Native.Nat.{◌+◌, ◌*◌, ◌-◌, ◌≤◌, ◌<◌}
+use native.Mathlib.Omega.{arith}
+use borrow.Author.Rules.{rules}
+use lib.ListN.{length}
+use Rattle.kernels.specs.Segment.{simple_segment, half, taps, mark}
+use Rattle.planes.specs.Edges.{vertical}
+use Rattle.edges.specs.EdgeFrom.{edge_from, smoothed_from}
+use Rattle.kernels.proofs.SegmentLaws.{mark-most}
+use Rattle.edges.proofs.VerticalRows.{row_within, from-none, row_next, length_from, counted_none, counted-most, counted_next}
+use Rattle.edges.proofs.vertical.v_simple.Goals as goal
+
+pub loop-n-init : goal.loop-n-init
+loop-n-init c = let x = c.args in (omega arith, from-none vertical _ _ _ _, refl, counted_none vertical (simple_segment x.edge) x.stride x.at x.plane.now)
+
+pub overflow_add-smoothed : goal.overflow_add-smoothed
+overflow_add-smoothed c =
+    let x = c.args in
+    omega (arith, c.loop-n.invariant.0, c.loop-n.invariant.3, counted-most vertical (simple_segment x.edge) x.stride x.at c.loop-n.n x.plane.now, c.one_if-smoothed.ensures, mark-most c.passed_in-passed.result)
+
+pub loop-n-preserved : goal.loop-n-preserved
+unfolding half taps
+loop-n-preserved c =
+    let row_in : c.loop-n.n < 16 → c.args.at + c.loop-n.n * c.args.stride + 4 ≤ length c.loop-n.plane = λ h. omega (arith, row_within c.args.at c.loop-n.n (15) c.args.stride 4 (omega arith) c.requires, c.loop-n.invariant.2) in
+    let x = c.args in
+    let k = simple_segment x.edge in
+    let fit = row_in c.loop-n-test.true in
+    let e = row_next k x.stride x.at c.loop-n.n (x.at + c.loop-n.n * x.stride + 4) x.plane.now c.loop-n.plane c.simple_segment-answer.new.seg c.loop-n.invariant.1 refl fit c.simple_segment-answer.ensures.seg_after in
+    let counted = counted_next k x.stride x.at c.loop-n.n (x.at + c.loop-n.n * x.stride + 4) x.plane.now c.loop-n.plane c.loop-n.invariant.1 refl fit c.simple_segment-answer.ensures.result_value in
+    (omega arith, e, ap length e ∙ length_from vertical k x.stride x.at (c.loop-n.n + 1) x.plane.now, omega (arith, c.one_if-smoothed.ensures, counted, ap mark c.passed_in-passed.ensures, c.loop-n.invariant.3))

@@ -12,7 +12,7 @@ use Rattle.edges.proofs.run.mb_run8.Goals as goal
 
 pub loop-n-init : goal.loop-n-init
 loop-n-init c =     let x = c.args in
-    (omega arith, run_none _ _ (rows-many 8 8 x.t1 _ c.well_formed.0), marks-none (yes_of x.edge.interior x.edge.limit x.t1))
+    (omega arith, run_none _ _ (rows-many 8 8 x.taps _ c.well_formed.0), marks-none (yes_of x.edge.interior x.edge.limit x.taps))
 
 pub overflow_add-marks : goal.overflow_add-marks
 overflow_add-marks c =

@@ -33,7 +33,7 @@ edge_yes-requires c =
 pub overflow_add-marks : goal.overflow_add-marks
 overflow_add-marks c =
     let x = c.args in
-    omega (arith, c.loop-n-test.true, c.loop-n.invariant.3, marks-most (simple_of x.edge_limit x.t1) c.loop-n.n, c.one_if-marks.ensures, mark-most c.edge_yes.result)
+    omega (arith, c.loop-n-test.true, c.loop-n.invariant.3, marks-most (simple_of x.edge_limit x.taps) c.loop-n.n, c.one_if-marks.ensures, mark-most c.edge_yes.result)
 
 pub loop-n-preserved : goal.loop-n-preserved
 loop-n-preserved c =

@@ -45,7 +45,7 @@ returns-clause-plane_after c =
     let r = c.simple_run-rows in
     let s = c in
     let x = s.args in
-    simple-edge x.edge 16 x.stride x.at x.plane.now bytes _ r.result gathered r.ensures.value s.requires.1 _ _ c.scatter16.ensures c.scatter16-2.ensures
+    simple-edge x.edge 16 x.stride x.at x.plane.now bytes _ r.result gathered r.ensures.value c.requires.le_stride _ _ c.scatter16.ensures c.scatter16-2.ensures
 
 pub returns-clause-value : goal.returns-clause-value
 returns-clause-value c =
@@ -55,4 +55,4 @@ returns-clause-value c =
     let r = c.simple_run-rows in
     let s = c in
     let x = s.args in
-    four-counted 16 x.stride x.at x.plane.now x.edge _ gathered s.requires.1 _ r.ensures.passed_after
+    four-counted 16 x.stride x.at x.plane.now x.edge _ gathered c.requires.le_stride _ r.ensures.passed_after

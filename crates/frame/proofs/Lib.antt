@@ -6,9 +6,6 @@ pub mod Squares
 -- The passes over byte lists.
 pub mod Soundness
 pub mod Passes
--- The passes over lent lists of records, which are walked.
+-- The passes over lent lists of records.
 pub mod RecordLaws
 pub mod RecordPasses
-pub mod SliceLending
-pub mod WalkEntry
-pub mod RecordWalk

@@ -5,5 +5,3 @@ pub mod FrameRecords
 pub mod FrameDemand3
 -- The settings that are handed to the pass.
 pub mod SettingsLaws
--- The frame calls over lent lists of records, which are walked.
-pub mod FrameWalk

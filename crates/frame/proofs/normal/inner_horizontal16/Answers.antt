@@ -1,0 +1,25 @@
+use borrow.Author.Rules.{rules}
+use Prim.Native.Nat.{◌+◌, ◌-◌, ◌*◌}
+use native.Mathlib.Omega.{arith}
+use lib.ListN.{length}
+use Rattle.edges.specs.NormalKernels.{inner_of}
+use Rattle.planes.specs.Edges.{horizontal}
+use Rattle.frame.specs.Private.PlaneEdges.{three_horizontal}
+use Rattle.frame.proofs.EdgesWithin.{did-if, did-not, within-most, three-horizontal-within}
+use Rattle.kernels.specs.Segment.{half, taps}
+use Rattle.frame.proofs.normal.inner_horizontal16.Goals as goal
+
+pub overflow_add-b : goal.overflow_add-b
+overflow_add-b c =
+    omega (arith, within-most _ _ _ _ 16 _ _ c.subblock_edge16-a.ensures.value, within-most _ _ _ _ 16 _ _ c.subblock_edge16.ensures.value)
+
+pub overflow_add-result : goal.overflow_add-result
+overflow_add-result c =
+    omega (arith, within-most _ _ _ _ 16 _ _ c.subblock_edge16-a.ensures.value, within-most _ _ _ _ 16 _ _ c.subblock_edge16.ensures.value, within-most _ _ _ _ 16 _ _ c.subblock_edge16-then-inside.ensures.value)
+
+pub returns-then-inside : goal.returns-then-inside
+unfolding half taps
+returns-then-inside c =
+    let x = c.args in
+    did-if x.inside c.if-inside.true
+    (three-horizontal-within (inner_of x.limits) x.stride x.corner x.plane.now _ _ _ _ _ _ c.requires.le_stride (omega (arith, c.requires.stride_in_bounds)) c.subblock_edge16-a.ensures c.subblock_edge16.ensures c.subblock_edge16-then-inside.ensures)

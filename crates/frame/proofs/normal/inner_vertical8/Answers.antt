@@ -1,0 +1,16 @@
+use borrow.Author.Rules.{rules}
+use Prim.Native.Nat.{◌+◌, ◌-◌, ◌*◌}
+use native.Mathlib.Omega.{arith}
+use lib.ListN.{length}
+use Rattle.edges.specs.NormalKernels.{inner_of}
+use Rattle.planes.specs.Edges.{vertical}
+use Rattle.kernels.specs.Segment.{half, taps}
+use Rattle.frame.specs.Private.PlaneEdges.{along}
+use Rattle.frame.proofs.EdgesWithin.{did-if, did-not, did-vertical}
+use Rattle.frame.proofs.normal.inner_vertical8.Goals as goal
+
+pub returns-then-inside : goal.returns-then-inside
+unfolding half taps
+returns-then-inside c =
+    let x = c.args in
+    did-if x.inside c.if-inside.true (did-vertical (inner_of x.limits) x.stride x.corner 8 x.plane.now _ _ (omega (arith, c.requires)) c.subblock_edge8.ensures.plane_after c.subblock_edge8.ensures.value)

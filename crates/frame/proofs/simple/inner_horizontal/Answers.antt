@@ -1,0 +1,24 @@
+use borrow.Author.Rules.{rules}
+use Prim.Native.Nat.{◌+◌, ◌-◌, ◌*◌}
+use native.Mathlib.Omega.{arith}
+use lib.ListN.{length}
+use Rattle.kernels.specs.Segment.{simple_segment, half, taps}
+use Rattle.planes.specs.Edges.{horizontal}
+use Rattle.frame.specs.Private.PlaneEdges.{three_horizontal}
+use Rattle.frame.proofs.EdgesWithin.{did-if, did-not, within-most, three-horizontal-within}
+use Rattle.frame.proofs.simple.inner_horizontal.Goals as goal
+
+pub overflow_add-b : goal.overflow_add-b
+overflow_add-b c =
+    omega (arith, within-most _ _ _ _ 16 _ _ c.simple_edge16-a.ensures.value, within-most _ _ _ _ 16 _ _ c.simple_edge16.ensures.value)
+
+pub overflow_add-result : goal.overflow_add-result
+overflow_add-result c =
+    omega (arith, within-most _ _ _ _ 16 _ _ c.simple_edge16-a.ensures.value, within-most _ _ _ _ 16 _ _ c.simple_edge16.ensures.value, within-most _ _ _ _ 16 _ _ c.simple_edge16-then-inside.ensures.value)
+
+pub returns-then-inside : goal.returns-then-inside
+unfolding half taps
+returns-then-inside c =
+    let x = c.args in
+    did-if x.inside c.if-inside.true
+    (three-horizontal-within (simple_segment x.edge) x.stride x.first x.plane.now _ _ _ _ _ _ c.requires.le_stride (omega (arith, c.requires.stride_in_bounds)) c.simple_edge16-a.ensures c.simple_edge16.ensures c.simple_edge16-then-inside.ensures)

@@ -22,4 +22,4 @@ unfolding half taps
 returns-then-inside c =
     let x = c.args in
     did-if x.inside c.if-inside.true
-    (three-horizontal-within (inner_of x.limits) x.stride x.corner x.plane.now _ _ _ _ _ _ c.requires.le_stride (omega (arith, c.requires.stride_in_bounds)) c.subblock_edge16-a.ensures c.subblock_edge16.ensures c.subblock_edge16-then-inside.ensures)
+    (three-horizontal-within (inner_of x.limits) x.stride x.corner x.plane.now _ _ _ _ _ _ c.requires.le_stride (omega (arith, c.requires.stride_in_bounds)) (c.subblock_edge16-a.ensures.plane_after, c.subblock_edge16-a.ensures.value) (c.subblock_edge16.ensures.plane_after, c.subblock_edge16.ensures.value) (c.subblock_edge16-then-inside.ensures.plane_after, c.subblock_edge16-then-inside.ensures.value))

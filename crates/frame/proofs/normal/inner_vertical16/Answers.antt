@@ -22,4 +22,4 @@ unfolding half taps
 returns-then-inside c =
     let x = c.args in
     did-if x.inside c.if-inside.true
-    (three-vertical-within (inner_of x.limits) x.stride x.corner x.plane.now _ _ _ _ _ _ (omega (arith, c.requires)) c.subblock_edge16-a.ensures c.subblock_edge16.ensures c.subblock_edge16-then-inside.ensures)
+    (three-vertical-within (inner_of x.limits) x.stride x.corner x.plane.now _ _ _ _ _ _ (omega (arith, c.requires)) (c.subblock_edge16-a.ensures.plane_after, c.subblock_edge16-a.ensures.value) (c.subblock_edge16.ensures.plane_after, c.subblock_edge16.ensures.value) (c.subblock_edge16-then-inside.ensures.plane_after, c.subblock_edge16-then-inside.ensures.value))

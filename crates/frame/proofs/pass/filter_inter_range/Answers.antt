@@ -35,6 +35,6 @@ loop-m-preserved c =
     let i = c.loop-m.invariant in (
       (omega (arith, i.0), omega (arith, c.loop-m-test.true)),
       one-turn inter_pass _ _ _ _ _ c.loop-m.m _ _ (planes_of c.filter_macroblock-smoothed.new.y c.filter_macroblock-smoothed.new.u c.filter_macroblock-smoothed.new.v) i.0.0 (inter-plan _ c.loop-m.m _ _ _ _ _ (inter_lists _ _ _ _ _) c.mode_of-mode.ensures c.reference_of-reference.ensures c.inter_mode_of-inter_mode.ensures c.mb_level-level.ensures c.inner_edges-inside.ensures) i.1 c.filter_macroblock-smoothed.ensures.planes,
-      (c.filter_macroblock-smoothed.auto.0 ∙ i.2.0, c.filter_macroblock-smoothed.auto.1.0 ∙ i.2.1, c.filter_macroblock-smoothed.auto.1.1.0 ∙ i.2.2),
+      (c.filter_macroblock-smoothed.auto.y ∙ i.2.0, c.filter_macroblock-smoothed.auto.u ∙ i.2.1, c.filter_macroblock-smoothed.auto.v ∙ i.2.2),
       one-count inter_pass _ _ _ _ _ c.loop-m.m _ _ _ _ i.0.0 (inter-plan _ c.loop-m.m _ _ _ _ _ (inter_lists _ _ _ _ _) c.mode_of-mode.ensures c.reference_of-reference.ensures c.inter_mode_of-inter_mode.ensures c.mb_level-level.ensures c.inner_edges-inside.ensures) i.1 i.3 c.filter_macroblock-smoothed.ensures.smoothed,
     )

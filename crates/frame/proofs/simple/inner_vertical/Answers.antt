@@ -21,4 +21,4 @@ unfolding half taps
 returns-then-inside c =
     let x = c.args in
     did-if x.inside c.if-inside.true
-    (three-vertical-within (simple_segment x.edge) x.stride x.first x.plane.now _ _ _ _ _ _ (omega (arith, c.requires)) c.simple_edge16-a.ensures c.simple_edge16.ensures c.simple_edge16-then-inside.ensures)
+    (three-vertical-within (simple_segment x.edge) x.stride x.first x.plane.now _ _ _ _ _ _ (omega (arith, c.requires)) (c.simple_edge16-a.ensures.plane_after, c.simple_edge16-a.ensures.value) (c.simple_edge16.ensures.plane_after, c.simple_edge16.ensures.value) (c.simple_edge16-then-inside.ensures.plane_after, c.simple_edge16-then-inside.ensures.value))

@@ -1,5 +1,5 @@
 -- The passes over lists of records: what the two have in common, and what the walk of their code asks of the steps. Assumes nothing.
-use mathlib.Core.Path.{◌≡◌, refl, sym, ap, ◌∙◌}
+use mathlib.Core.Path.{◌≡◌, refl, sym, ap, subst, ◌∙◌}
 use mathlib.Core.Bool.{true, false}
 use mathlib.Core.List.{List}
 use Prim.Native.Nat.{ℕ, zero, suc, ◌+◌, ◌-◌, ◌*◌, ◌≤◌, ◌<◌, ◌^◌}
@@ -18,7 +18,7 @@ use Rattle.calls.specs.Smoothed.{step_smoothed}
 use Rattle.planes.specs.Layout.{grid_of}
 use Rattle.calls.specs.Answers.{Passed}
 use Rattle.calls.specs.declared.answers.PassAnswer.{PassAnswer}
-use Rattle.frame.specs.Private.Ranges.{Sound}
+use Rattle.frame.specs.Private.Ranges.{Sound, SteppedOn}
 use Rattle.judge.specs.Batches.{lengths_wrong, with_total, batch_of}
 use Rattle.planes.specs.declared.layout.PlaneLayout.{PlaneLayout}
 use Rattle.judge.specs.declared.batch.Batch.{Batch}
@@ -120,6 +120,13 @@ module _ (K : OfRecords) (layout : PlaneLayout) (config : FrameFilterConfig) (rs
       let h = length-steps (grid_of layout) (λ m. K.pass.plan config (K.pass.entry (K.carry rs) m)) from n p₀ in
       record { y = h luma; u = h chroma_u; v = h chroma_v }
 
+  -- what the loop keeps of a batch: macroblocks up to m are done
+  pub record Kept (r : Batch) (m s : ℕ) (p : Planes) : Type 0 where
+    pub from : r.from ≤ m
+    pub to : m ≤ r.to
+    pub planes : p ≡ planes_at r.from (m - r.from)
+    pub total : s ≡ total_at r.from (m - r.from)
+
   module _ (r : Batch) (e : r ≡ planned (length p₀.y) (length p₀.u) (length p₀.v) layout (length rs) start allowance) where
     met : Meets K.pass call_of r
     met = batch-meets K.pass call_of r (e ∙ rw (same_test (macroblocks (grid_of layout)) rs ∙ K.lengths rs (macroblocks (grid_of layout)), K.no-bad rs))
@@ -157,3 +164,50 @@ module _ (K : OfRecords) (layout : PlaneLayout) (config : FrameFilterConfig) (rs
     -- once all are done
     pub passed : (n : ℕ) → n ≡ r.to - r.from → (x : PassAnswer) → x ≡ with_total r.answer (total_at r.from n) → Passed K.pass call_of x (planes_at r.from n)
     passed n en x ex = ends met (planes_at r.from n) (total_at r.from n) x (ap (planes_at r.from) en) (ap (total_at r.from) en) ex
+
+    -- ---- the loop: before it, what its step asks, after a step, and once all are done
+
+    pub kept-none : Kept r r.from 0 p₀
+    kept-none =
+        let z : r.from - r.from ≡ 0 = omega arith in
+        record {
+          from = omega arith;
+          to = ordered;
+          planes = no_step r.from ∙ ap (planes_at r.from) (sym z);
+          total = no-total r.from ∙ ap (total_at r.from) (sym z);
+        }
+
+    pub kept-ready : (m s : ℕ) (p : Planes) → Kept r m s p → m < r.to → Sound layout p.y p.u p.v × (m < macroblocks (grid_of layout)) × (s ≤ 192 * m)
+    kept-ready m s p k h =
+        let t = ready (m - r.from) (omega (arith, h, k.from)) in (
+          subst (λ (q : Planes). Sound layout q.y q.u q.v) (sym k.planes) t.0,
+          omega (arith, t.1, k.from),
+          omega (arith, t.2, k.total, k.from),
+        )
+
+    stepped : (n m s s' : ℕ) (p p' : Planes) → m ≡ r.from + n → p ≡ planes_at r.from n → s ≡ total_at r.from n
+        → SteppedOn layout (K.pass.plan config (K.says (get_or rs m no_record))) m p p' s s'
+        → SteppedOn layout (K.pass.plan config (K.says (get_or rs (r.from + n) no_record))) (r.from + n) (planes_at r.from n) p' (total_at r.from n) s'
+    stepped n m s s' p p' em ep es h =
+        subst (λ (i : ℕ). SteppedOn layout (K.pass.plan config (K.says (get_or rs i no_record))) i (planes_at r.from n) p' (total_at r.from n) s') em
+        (subst (λ (q : Planes). SteppedOn layout (K.pass.plan config (K.says (get_or rs m no_record))) m q p' (total_at r.from n) s') ep
+        (subst (λ (i : ℕ). SteppedOn layout (K.pass.plan config (K.says (get_or rs m no_record))) m p p' i s') es h))
+
+    pub kept-next : (m s s' : ℕ) (p p' : Planes) → Kept r m s p → m < r.to
+        → SteppedOn layout (K.pass.plan config (K.says (get_or rs m no_record))) m p p' s s' → Kept r (m + 1) s' p'
+    kept-next m s s' p p' k h t =
+        let n : m ≡ r.from + (m - r.from) = omega (arith, k.from) in
+        let d = stepped (m - r.from) m s s' p p' n k.planes k.total t in
+        let z : (m - r.from) + 1 ≡ (m + 1) - r.from = omega (arith, k.from) in
+        record {
+          from = omega (arith, k.from);
+          to = omega (arith, h);
+          planes = d.planes ∙ one-step r.from (m - r.from) ∙ ap (planes_at r.from) z;
+          total = one-total r.from (m - r.from) s' d.smoothed ∙ ap (total_at r.from) z;
+        }
+
+    pub kept-passed : (m s : ℕ) (p : Planes) → Kept r m s p → r.to ≤ m → (x : PassAnswer) → x ≡ with_total r.answer s → Passed K.pass call_of x p
+    kept-passed m s p k h x ex =
+        let z : m - r.from ≡ r.to - r.from = omega (arith, k.to, h) in
+        let d = passed (m - r.from) z x (ex ∙ ap (with_total r.answer) k.total) in
+        subst (λ (q : Planes). Passed K.pass call_of x q) (sym k.planes) d

@@ -51,14 +51,20 @@ struct Edit {
 /// What is wrong, or why it could not be looked at.
 fn check(names: &[String]) -> Result<Vec<String>, String> {
     let root = Path::new(env!("CARGO_MANIFEST_DIR")).ancestors().nth(2).expect("host/edits");
-    let (mut count, mut crates) = (0, Vec::new());
+    let (mut count, mut crates, mut faults) = (0, Vec::new(), Vec::new());
     for dir in entries(&root.join("crates"))? {
         let name = last(&dir);
         if names.is_empty() || names.contains(&name) {
-            let edits = edits(&dir)?;
-            count += edits.len();
-            let edits = edits.into_iter().filter(|edit| !edit.functions.is_empty()).collect();
-            crates.push(Edits { crate_name: name, edits });
+            let mut found = Vec::new();
+            for edit in edits(&dir)? {
+                count += 1;
+                match edit {
+                    Ok(edit) if edit.functions.is_empty() => {}
+                    Ok(edit) => found.push(edit),
+                    Err(fault) => faults.push(fault),
+                }
+            }
+            crates.push(Edits { crate_name: name, edits: found });
         }
     }
     if let Some(name) = names.iter().find(|name| !crates.iter().any(|one| one.crate_name == **name)) {
@@ -70,7 +76,7 @@ fn check(names: &[String]) -> Result<Vec<String>, String> {
     crates.sort_by_key(|one| one.edits.len());
     let workers = std::thread::available_parallelism().map_or(1, usize::from).min(MOST).min(crates.len());
     let left = Mutex::new(crates);
-    let faults = Mutex::new(Ok(Vec::new()));
+    let faults = Mutex::new(Ok(faults));
     std::thread::scope(|scope| {
         for number in 0..workers {
             let (left, faults) = (&left, &faults);
@@ -122,16 +128,17 @@ fn tried(root: &Path, copy: &Copy, crate_name: &str, edit: &Edit) -> Result<Vec<
     Ok(missing.map(|function| format!("{crate_name}/{}: {function} is changed, and not refused", edit.label)).collect())
 }
 
-/// The must-fail edits of a crate.
-fn edits(crate_dir: &Path) -> Result<Vec<Edit>, String> {
+/// The must-fail edits of a crate, or what is wrong with one.
+fn edits(crate_dir: &Path) -> Result<Vec<Result<Edit, String>>, String> {
     let folder = crate_dir.join("must-fail");
     let mut found = Vec::new();
     for path in if folder.is_dir() { entries(&folder)? } else { Vec::new() } {
         if path.extension().is_some_and(|ending| ending == "edit") {
             let label = last(&path.with_extension(""));
-            let edited = edited(crate_dir, &replacements(&read(&path)?))
-                .map_err(|reason| format!("{}/{label}: {reason}", last(crate_dir)))?;
-            found.push(Edit { label, texts: edited.texts, functions: edited.functions });
+            found.push(match edited(crate_dir, &replacements(&read(&path)?)) {
+                Ok(edited) => Ok(Edit { label, texts: edited.texts, functions: edited.functions }),
+                Err(reason) => Err(format!("{}/{label}: {reason}", last(crate_dir))),
+            });
         }
     }
     Ok(found)

@@ -48,6 +48,11 @@ impl Copy {
         let printed = [output.stdout, output.stderr].map(|bytes| String::from_utf8_lossy(&bytes).into_owned());
         Ok(Checked { proved: output.status.success(), log: printed.concat() })
     }
+
+    /// Removes what checks of a crate kept for further ones, which takes hundreds of megabytes.
+    pub fn done_with(&self, name: &str) {
+        let _ = std::fs::remove_dir_all(self.crate_dir(name).join("out/incremental"));
+    }
 }
 
 impl Drop for Copy {

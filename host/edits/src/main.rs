@@ -111,6 +111,7 @@ fn work(root: &Path, number: usize, left: &Mutex<Vec<Edits>>) -> Result<Vec<Stri
         for edit in edits {
             faults.extend(tried(root, &copy, &crate_name, &edit)?);
         }
+        copy.done_with(&crate_name);
     }
 }
 

@@ -34,7 +34,7 @@ fn directory() -> Result<PathBuf, String> {
             Err(format!("VP8LF_LIB_DIR names '{}', which has no libloop_filter.a", directory.display()))
         }
         (false, None) => Err(format!(
-            "{} is missing: run `rt staticlib loop_filter` in the repository, or name the directory of \
+            "{} is missing: run `./build-library` in the repository, or name the directory of \
              libloop_filter.a in VP8LF_LIB_DIR",
             archive.display()
         )),

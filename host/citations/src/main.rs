@@ -70,7 +70,7 @@ fn check(rfc: Option<&String>) -> Result<Vec<String>, String> {
     Ok(faults)
 }
 
-/// The sum that the command `sha256sum`, which `rt` needs too, prints of a file.
+/// The sum that the command `sha256sum` prints of a file.
 fn sha256(path: &str) -> Result<String, String> {
     let failed = |error: std::io::Error| format!("sha256sum of {path}: {error}");
     let file = std::fs::File::open(path).map_err(failed)?;

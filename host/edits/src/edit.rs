@@ -26,12 +26,20 @@ pub fn replacements(text: &str) -> Vec<Replacement> {
     found
 }
 
-/// `module::function` of each place in `src` that the edit changes, as the prover names it within the crate. A place before every
-/// function, as a constant, has none.
-pub fn edited_functions(crate_dir: &Path, edit: &[Replacement]) -> Result<Vec<String>, String> {
+/// What an edit makes of a crate.
+pub struct Edited {
+    /// The files that it changes, below the crate's directory, and their texts with all replacements.
+    pub texts: Vec<(String, String)>,
+    /// `module::function` of each place in `src` that it changes, as the prover names it within the crate. A place before every
+    /// function, as a constant, has none.
+    pub functions: Vec<String>,
+}
+
+/// Applies the edit to the crate's texts.
+pub fn edited(crate_dir: &Path, edit: &[Replacement]) -> Result<Edited, String> {
     let mut texts: Vec<(String, String)> = Vec::new();
     let mut functions = Vec::new();
-    for replacement in edit.iter().filter(|replacement| replacement.file.starts_with("src/")) {
+    for replacement in edit {
         if !texts.iter().any(|(file, _)| *file == replacement.file) {
             let path = crate_dir.join(&replacement.file);
             let text = std::fs::read_to_string(&path).map_err(|reason| format!("{}: {reason}", path.display()))?;
@@ -39,14 +47,16 @@ pub fn edited_functions(crate_dir: &Path, edit: &[Replacement]) -> Result<Vec<St
         }
         let (file, text) = texts.iter_mut().find(|(file, _)| *file == replacement.file).expect("it was read above");
         let at = text.find(&replacement.old).ok_or_else(|| format!("{file} has no '{}'", replacement.old))?;
-        if let Some(function) = function_at(text, at) {
+        if file.starts_with("src/")
+            && let Some(function) = function_at(text, at)
+        {
             functions.push(format!("{}::{function}", module(file)));
         }
         text.replace_range(at..at + replacement.old.len(), &replacement.new);
     }
     functions.sort();
     functions.dedup();
-    Ok(functions)
+    Ok(Edited { texts, functions })
 }
 
 /// `src/a/b.rt` is the module `a::b`.
@@ -90,7 +100,7 @@ fn word(text: &str) -> &str {
 mod tests {
     use super::*;
 
-    const TEXT: &str = "const A: u8 = 3;\n\n// fn in a comment\npub fn first(a: u8) -> u8\n    ensures { one }\n{\n    a\n}\n\nimpl Limits {\n    pub fn derive() {\n        two\n    }\n}\n\n#[no_mangle]\npub extern \"C\" fn last(\n    a: u8,\n) {\n    three\n}\n";
+    const TEXT: &str = "const A: u8 = 3;\n\n// fn in a comment\npub fn first(a: u8) -> u8\n    ensures { one }\n{\n    a\n}\n\nimpl Limits {\n    pub fn derive() {\n        two\n    }\n}\n\n#[unsafe(no_mangle)]\npub extern \"C\" fn last(\n    a: u8,\n) {\n    three\n}\n";
 
     fn at(words: &str) -> Option<String> {
         function_at(TEXT, TEXT.find(words).expect("the text has it"))

@@ -19,7 +19,7 @@ fn host() -> PathBuf {
     PathBuf::from(env!("CARGO_MANIFEST_DIR")).join("..").canonicalize().expect("the directory of the hosts")
 }
 
-/// The library as it is: where VP8LF_LIB_DIR says, or where `rt staticlib` puts it.
+/// The library as it is: where VP8LF_LIB_DIR says, or where `./build-library` puts it.
 fn archive() -> PathBuf {
     let named = env::var_os("VP8LF_LIB_DIR").filter(|name| !name.is_empty()).map(PathBuf::from);
     named.unwrap_or_else(|| host().join("../target/staticlib")).join("libloop_filter.a")

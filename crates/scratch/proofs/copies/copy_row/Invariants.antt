@@ -1,0 +1,14 @@
+use Rattle.scratch.proofs.CopyLaws.{row-none, row_more}
+use Rattle.scratch.specs.Copies.{copy_row}
+use native.Mathlib.Omega.{arith}
+use lib.ListN.{length, length-set}
+use Prim.Native.Nat.{ℕ, ◌≤◌, ◌-◌}
+use mathlib.Core.Path.{◌≡◌, ap, ◌∙◌}
+use Rattle.scratch.proofs.copies.copy_row.Given as goal
+
+abbrev pub invariant-loop-k : goal.invariant-loop-k
+invariant-loop-k l =
+    (l.k ≤ l.n) × ((l.into ≡ copy_row l.source l.from l.k l.initial.into) × (length l.into ≡ length l.initial.into))
+
+abbrev pub decreases-loop-k : goal.decreases-loop-k
+decreases-loop-k l = l.n - l.k

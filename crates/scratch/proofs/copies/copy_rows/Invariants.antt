@@ -1,0 +1,15 @@
+use Rattle.scratch.proofs.CopyLaws.{rows_none, rows_more, row-length}
+use Rattle.planes.proofs.PastGrid.{row_in}
+use Rattle.scratch.specs.Copies.{copy_rows}
+use native.Mathlib.Omega.{arith}
+use lib.ListN.{length}
+use Prim.Native.Nat.{ℕ, ◌≤◌, ◌-◌}
+use mathlib.Core.Path.{◌≡◌, ap, ◌∙◌}
+use Rattle.scratch.proofs.copies.copy_rows.Given as goal
+
+abbrev pub invariant-loop-r : goal.invariant-loop-r
+invariant-loop-r l =
+    (l.r ≤ l.n) × ((l.into ≡ copy_rows l.source l.stride l.w l.r l.initial.into) × (length l.into ≡ length l.initial.into))
+
+abbrev pub decreases-loop-r : goal.decreases-loop-r
+decreases-loop-r l = l.n - l.r

@@ -1,0 +1,21 @@
+use Rattle.search.proofs.TrialLaws.{trials-none, trials-more, count-more, trials-end}
+use Rattle.scratch.proofs.AlikeLaws.{alike_self, alike_then}
+use Rattle.scratch.specs.EitherPass.{pass_of}
+use Rattle.scratch.specs.Private.Alike.{Alike}
+use Rattle.search.specs.Private.SearchCode.{after_trial}
+use Rattle.search.specs.Search.{score, planes_of_candidate, setup_call}
+use Rattle.planes.specs.Layout.{grid_of, planes_of}
+use Rattle.planes.specs.Planes.{luma, chroma_u, chroma_v}
+use Rattle.planes.specs.Steps.{steps}
+use borrow.Author.Rules.{rules}
+use native.Mathlib.Omega.{arith}
+use Prim.Native.Nat.{◌-◌, ◌≤◌}
+use mathlib.Core.Path.{◌≡◌, refl, ◌∙◌}
+use Rattle.search.proofs.search.search_trials.Given as goal
+
+abbrev pub invariant-loop-i : goal.invariant-loop-i
+invariant-loop-i l =
+    (l.i ≤ 88) × ((l.best ≡ steps (after_trial (score (pass_of l.setup.«inter») (setup_call l.setup (planes_of l.y l.u l.v) (planes_of l.initial.scratch_y l.initial.scratch_u l.initial.scratch_v) l.modes l.segments l.flags l.references l.inter_modes l.src_y l.src_u l.src_v)) l.base) 0 l.i l.initial.best) × ((l.best.«count» ≤ l.i) × Alike (grid_of l.setup.«layout») (planes_of l.initial.scratch_y l.initial.scratch_u l.initial.scratch_v) (planes_of l.scratch_y l.scratch_u l.scratch_v)))
+
+abbrev pub decreases-loop-i : goal.decreases-loop-i
+decreases-loop-i l = 88 - l.i

@@ -1,0 +1,34 @@
+use borrow.Author.Rules.{rules}
+use Rattle.planes.specs.Layout.{planes_of}
+use Rattle.sums.specs.Bytes.{BytePlanes}
+use Rattle.scratch.proofs.AlikeLaws.{alike_self, alike-copy}
+use Rattle.search.specs.Search.{planes_of_candidate}
+use Rattle.search.proofs.Scores.{byte-planes, made, scored-sum, scored-always}
+use Rattle.search.proofs.TrialLaws.{tried-skip, tried-take}
+use Rattle.search.proofs.search.try_candidate.Goals as goal
+
+pub returns-then-trial : goal.returns-then-trial
+returns-then-trial c = record { best = tried-skip _ _ _ c.if-trial.true; scratch = alike_self _ _ }
+
+pub returns-in_default : goal.returns-in_default
+unfolding planes_of_candidate
+returns-in_default c =
+    let source-bytes : BytePlanes (planes_of c.args.src_y.now c.args.src_u.now c.args.src_v.now) = byte-planes _ _ _ c.type_inv.src_y c.type_inv.src_u c.type_inv.src_v in
+    absurd (scored-always _ _ c.requires.ready _ _ c.make_candidate.ensures
+    (byte-planes _ _ _ c.type_inv.scratch_y c.type_inv.scratch_u c.type_inv.scratch_v)
+    source-bytes _ c.reconstruction_ssd.ensures c.in_default.keys2)
+
+pub returns : goal.returns
+unfolding planes_of_candidate
+returns c =
+    let source-bytes : BytePlanes (planes_of c.args.src_y.now c.args.src_u.now c.args.src_v.now) = byte-planes _ _ _ c.type_inv.src_y c.type_inv.src_u c.type_inv.src_v in
+    let h = c.make_candidate.ensures in
+    record {
+      best =
+          tried-take _ _ _ _ _ c.if-trial.false
+          (scored-sum _ _ c.requires.ready _ _ h
+          (byte-planes _ _ _ c.type_inv.scratch_y c.type_inv.scratch_u c.type_inv.scratch_v)
+          source-bytes _ c.reconstruction_ssd.ensures _ c.in-Sum.is)
+          c.take.ensures;
+      scratch = alike-copy _ _ _ _ c.requires.ready.scratch (made _ _ c.requires.ready _ _ h);
+    }

@@ -9,9 +9,6 @@ use Rattle.search.proofs.Endings.{refused, started, chosen, other-scratch, ready
 use Rattle.search.proofs.Judgements.{accepted-ready}
 use Rattle.search.proofs.search.select_params.Goals as goal
 
-abbrev lent : tie.Start → Planes
-lent s = planes_of s.args.scratch-y.now s.args.scratch-u.now s.args.scratch-v.now
-
 pub search_all-best-requires-clause-ready : goal.search_all-best-requires-clause-ready
 unfolding sum_outcome
 search_all-best-requires-clause-ready c =
@@ -19,7 +16,7 @@ search_all-best-requires-clause-ready c =
     c.args.modes.now c.args.segments.now c.args.flags.now c.args.references.now c.args.inter_modes.now
     c.args.src_y.now c.args.src_u.now c.args.src_v.now in
     let W = pass_of c.args.setup.«inter» in
-    let a = over (lent c) in
+    let a = over (planes_of c.args.scratch_y.now c.args.scratch_u.now c.args.scratch_v.now) in
     let h = c.unfiltered_sum-unfiltered.ensures in
     let (accepted, sum) = started W a _ (sym (ap sum_outcome c.in-Sum.is) ∙ h.answer) in
     ready-other W a _ (sym (ap over h.scratch)) (accepted-ready W a accepted)
@@ -31,7 +28,7 @@ search_all-best-requires-clause-sum_value c =
     c.args.modes.now c.args.segments.now c.args.flags.now c.args.references.now c.args.inter_modes.now
     c.args.src_y.now c.args.src_u.now c.args.src_v.now in
     let W = pass_of c.args.setup.«inter» in
-    let a = over (lent c) in
+    let a = over (planes_of c.args.scratch_y.now c.args.scratch_u.now c.args.scratch_v.now) in
     let h = c.unfiltered_sum-unfiltered.ensures in
     let (accepted, sum) = started W a _ (sym (ap sum_outcome c.in-Sum.is) ∙ h.answer) in
     sum
@@ -43,7 +40,7 @@ returns-in-Refused c =
     c.args.modes.now c.args.segments.now c.args.flags.now c.args.references.now c.args.inter_modes.now
     c.args.src_y.now c.args.src_u.now c.args.src_v.now in
     let h = c.unfiltered_sum-unfiltered.ensures in
-    refused (pass_of c.args.setup.«inter») (over (lent c)) _ _
+    refused (pass_of c.args.setup.«inter») (over (planes_of c.args.scratch_y.now c.args.scratch_u.now c.args.scratch_v.now)) _ _
     (record { answer = sym (ap sum_outcome c.in-Refused.is) ∙ h.answer; scratch = h.scratch })
 
 pub returns-in-Sum : goal.returns-in-Sum
@@ -53,7 +50,7 @@ returns-in-Sum c =
     c.args.modes.now c.args.segments.now c.args.flags.now c.args.references.now c.args.inter_modes.now
     c.args.src_y.now c.args.src_u.now c.args.src_v.now in
     let W = pass_of c.args.setup.«inter» in
-    let a = over (lent c) in
+    let a = over (planes_of c.args.scratch_y.now c.args.scratch_u.now c.args.scratch_v.now) in
     let h = c.unfiltered_sum-unfiltered.ensures in
     let (accepted, sum) = started W a _ (sym (ap sum_outcome c.in-Sum.is) ∙ h.answer) in
     chosen W a accepted _ _ (other-scratch W a _ _ _ (ap over h.scratch) c.search_all-best.ensures)

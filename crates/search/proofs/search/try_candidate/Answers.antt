@@ -15,8 +15,8 @@ unfolding planes_of_candidate
 returns-in_default c =
     let source-bytes : BytePlanes (planes_of c.args.src_y.now c.args.src_u.now c.args.src_v.now) = byte-planes _ _ _ c.type_inv.src_y c.type_inv.src_u c.type_inv.src_v in
     absurd (scored-always _ _ c.requires.ready _ _ c.make_candidate.ensures
-    (byte-planes _ _ _ c.type_inv.scratch_y c.type_inv.scratch_u c.type_inv.scratch_v)
-    source-bytes _ c.reconstruction_ssd.ensures c.in_default.keys2)
+    (byte-planes _ _ _ c.slice_known-4-1.given c.slice_known-5-1.given c.slice_known-6-1.given)
+    source-bytes _ c.reconstruction_ssd.ensures c.in_default.in_default-own.keys2)
 
 pub returns : goal.returns
 unfolding planes_of_candidate
@@ -27,7 +27,7 @@ returns c =
       best =
           tried-take _ _ _ _ _ c.if-trial.false
           (scored-sum _ _ c.requires.ready _ _ h
-          (byte-planes _ _ _ c.type_inv.scratch_y c.type_inv.scratch_u c.type_inv.scratch_v)
+          (byte-planes _ _ _ c.slice_known-4-1.given c.slice_known-5-1.given c.slice_known-6-1.given)
           source-bytes _ c.reconstruction_ssd.ensures _ c.in-Sum.is)
           c.take.ensures;
       scratch = alike-copy _ _ _ _ c.requires.ready.scratch (made _ _ c.requires.ready _ _ h);

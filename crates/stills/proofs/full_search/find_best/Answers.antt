@@ -1,0 +1,15 @@
+use borrow.Author.Rules.{rules}
+use Rattle.search.specs.Search.{planes_of_candidate}
+use Rattle.stills.proofs.Pairs.{pairs-none, ended}
+use Rattle.stills.proofs.full_search.find_best.Goals as goal
+
+pub try_pairs-best-requires-clause-starts : goal.try_pairs-best-requires-clause-starts
+try_pairs-best-requires-clause-starts c =
+    let (ready, sum) = c.requires in
+    pairs-none _ _ _ _ c.base_sharpness-base.ensures sum
+
+pub returns : goal.returns
+unfolding planes_of_candidate
+returns c =
+    let (ready, sum) = c.requires in
+    ended _ _ _ _ _ ready c.try_pairs-best.ensures c.make_candidate.ensures

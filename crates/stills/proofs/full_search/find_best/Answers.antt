@@ -5,11 +5,9 @@ use Rattle.stills.proofs.full_search.find_best.Goals as goal
 
 pub try_pairs-best-requires-clause-starts : goal.try_pairs-best-requires-clause-starts
 try_pairs-best-requires-clause-starts c =
-    let (ready, sum) = c.requires in
-    pairs-none _ _ _ _ c.base_sharpness-base.ensures sum
+    pairs-none _ _ _ _ c.base_sharpness-base.ensures c.requires.sum_value
 
 pub returns : goal.returns
 unfolding planes_of_candidate
 returns c =
-    let (ready, sum) = c.requires in
-    ended _ _ _ _ _ ready c.try_pairs-best.ensures c.make_candidate.ensures
+    ended _ _ _ _ _ c.requires.ready c.try_pairs-best.ensures c.make_candidate.ensures

@@ -1,0 +1,27 @@
+use borrow.Author.Rules.{rules}
+use mathlib.Core.Path.{refl, sym, ap, ◌∙◌}
+use Prim.Native.Nat.{ℕ}
+use Rattle.arithmetic.specs.Outcome.{Outcome, number_of}
+use Rattle.levels.specs.Answers.{level_outcome}
+use Rattle.levels.specs.Levels.{key_answer}
+use Rattle.levels.specs.declared.config.FrameFilterConfig.{FrameFilterConfig}
+use Rattle.loop_filter.specs.Returned.{out_of}
+use Rattle.loop_filter.proofs.Numbers16.{same-settings}
+use Rattle.loop_filter.proofs.Returns.{returned}
+use Rattle.loop_filter.proofs.level.vp8lf_calculate_mb_filter_level.Goals as goal
+
+pub returns-in-Level : goal.returns-in-Level
+unfolding number_of level_outcome out_of
+returns-in-Level c =
+    let x = c.args in
+    let f = c.ranges in
+    let e = sym (ap level_outcome c.in-Level.is) ∙ c.calculate_mb_filter_level.ensures ∙ ap (λ (q : FrameFilterConfig). key_answer q x.segment x.mode) (c.settings-config.ensures ∙ same-settings x.simple x.key_frame x.loop_filter_level x.sharpness_level x.segmentation_enabled x.segment_abs x.segment_level_0 x.segment_level_1 x.segment_level_2 x.segment_level_3 x.delta_enabled x.ref_delta_current x.bpred_mode_delta x.ref_delta_last x.ref_delta_golden x.ref_delta_altref x.zero_mv_mode_delta x.other_mv_mode_delta x.split_mv_mode_delta f.segment_level_0 f.segment_level_1 f.segment_level_2 f.segment_level_3 f.ref_delta_current f.bpred_mode_delta f.ref_delta_last f.ref_delta_golden f.ref_delta_altref f.zero_mv_mode_delta f.other_mv_mode_delta f.split_mv_mode_delta) in
+    returned e (record { number = refl; out = refl })
+
+pub returns-in-BadEntry : goal.returns-in-BadEntry
+unfolding number_of level_outcome out_of
+returns-in-BadEntry c =
+    let x = c.args in
+    let f = c.ranges in
+    let e = sym (ap level_outcome c.in-BadEntry.is) ∙ c.calculate_mb_filter_level.ensures ∙ ap (λ (q : FrameFilterConfig). key_answer q x.segment x.mode) (c.settings-config.ensures ∙ same-settings x.simple x.key_frame x.loop_filter_level x.sharpness_level x.segmentation_enabled x.segment_abs x.segment_level_0 x.segment_level_1 x.segment_level_2 x.segment_level_3 x.delta_enabled x.ref_delta_current x.bpred_mode_delta x.ref_delta_last x.ref_delta_golden x.ref_delta_altref x.zero_mv_mode_delta x.other_mv_mode_delta x.split_mv_mode_delta f.segment_level_0 f.segment_level_1 f.segment_level_2 f.segment_level_3 f.ref_delta_current f.bpred_mode_delta f.ref_delta_last f.ref_delta_golden f.ref_delta_altref f.zero_mv_mode_delta f.other_mv_mode_delta f.split_mv_mode_delta) in
+    returned e (record { number = refl; out = refl })

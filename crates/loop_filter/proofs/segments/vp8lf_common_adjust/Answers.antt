@@ -1,0 +1,26 @@
+use borrow.Author.Rules.{rules}
+use mathlib.Core.Path.{refl, sym, ap, ◌∙◌}
+use lib.IntN.{ℤ}
+use mir.Syntax.{w32}
+use Rattle.arithmetic.specs.Outcome.{Outcome, number_of}
+use Rattle.kernels.specs.Answers.{adjust_outcome}
+use Rattle.arithmetic.proofs.Ranges as R
+use Rattle.loop_filter.specs.Returned.{out_of}
+use Rattle.loop_filter.proofs.Returns.{returned}
+use Rattle.loop_filter.proofs.segments.vp8lf_common_adjust.Goals as goal
+
+pub returns-in-AdjustedBy-clause-returned : goal.returns-in-AdjustedBy-clause-returned
+unfolding number_of adjust_outcome out_of
+returns-in-AdjustedBy-clause-returned c =     let h = c.a-1.given in
+    let k = c.common_adjust in
+    let out = c.args.adjustment in
+    let e = sym (ap adjust_outcome h.1) ∙ k.ensures.result_value in
+    returned e (record { number = refl; out = (R.held {w = w32} {z = h.0.0} (record { sfits = c.known_told-1.given.0.1 })).val })
+
+pub returns-in-NoWindowToAdjust-clause-returned : goal.returns-in-NoWindowToAdjust-clause-returned
+unfolding number_of adjust_outcome out_of
+returns-in-NoWindowToAdjust-clause-returned c =
+    let k = c.common_adjust in
+    let out = c.args.adjustment in
+    let e = sym (ap adjust_outcome c.in-NoWindowToAdjust.is) ∙ k.ensures.result_value in
+    returned e (record { number = refl; out = refl })

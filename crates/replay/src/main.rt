@@ -31,7 +31,7 @@ use recording::marks::{begin_section, end_recording, end_section, mark};
 use recording::picture::{Picture, read_picture, stripes};
 use std::io;
 
-// Passes and frame calls over records take a lent slice of them. A caller that lends one is proved by hand, so there is one such caller of each only.
+// The passes and frame calls over records, on lists of four.
 pub fn key_four(
     y: &mut [u8],
     u: &mut [u8],

@@ -6,8 +6,8 @@ ghost use Rattle.std.specs.Prelude.{◌≤◌};
 use calls::answers::{PassAnswer, pass_refusal_number};
 use frame::pass::{filter_frame, filter_inter_frame};
 use levels::config::FrameFilterConfig;
-use libc::STDOUT_FILENO;
 use planes::layout::PlaneLayout;
+use std::io;
 
 fn settings(simple: bool, level: u8) -> FrameFilterConfig {
     let none = [0i16, 0, 0, 0];
@@ -112,7 +112,7 @@ fn one_macroblock_stays(simple: bool, inter: bool, level: u8) -> bool {
     let u0 = u;
     let v0 = v;
     let answer = filter_one(&mut y, &mut u, &mut v, simple, inter, level);
-    none_smoothed(answer) & check::same(&y, &y0) & check::same(&u, &u0) & check::same(&v, &v0)
+    none_smoothed(answer) & (y == y0) & (u == u0) & (v == v0)
 }
 
 // M, for every header byte.
@@ -125,14 +125,11 @@ fn stays_at_every_level(simple: bool, inter: bool) -> bool {
     true
 }
 
-fn say(ok: bool) {
+fn say(rt: &impl Print, ok: bool) -> io::Result<()> {
     if ok {
-        io::write_all(STDOUT_FILENO, b"nothing changes, nothing is smoothed\n");
+        println!(rt; "nothing changes, nothing is smoothed")
     } else {
-        io::write_all(
-            STDOUT_FILENO,
-            b"a sample changes, or something is smoothed\n",
-        );
+        println!(rt; "a sample changes, or something is smoothed")
     }
 }
 
@@ -155,39 +152,31 @@ fn column_differs(a: &[u8], b: &[u8], stride: usize, column: usize) -> bool
 }
 
 // A letter for each column: x where it differs.
-fn show_columns(a: &[u8], b: &[u8], stride: usize)
+fn show_columns(rt: &impl Print, a: &[u8], b: &[u8], stride: usize) -> io::Result<()>
     requires { stride ≤ 32 }
 {
     for column in 0..stride {
         if column_differs(a, b, stride, column) {
-            io::write_all(STDOUT_FILENO, b"x");
+            print!(rt; "x")?;
         } else {
-            io::write_all(STDOUT_FILENO, b".");
+            print!(rt; ".")?;
         }
     }
-    io::write_all(STDOUT_FILENO, b"\n");
+    println!(rt)
 }
 
-fn show_answer(answer: PassAnswer) {
+fn show_answer(rt: &impl Print, answer: PassAnswer) -> io::Result<()> {
     match answer {
         PassAnswer::Done {
             count,
             next,
             smoothed,
-        } => {
-            io::write_all(STDOUT_FILENO, b"count ");
-            io::print_decimal(STDOUT_FILENO, count as u64);
-            io::write_all(STDOUT_FILENO, b", next ");
-            io::print_decimal(STDOUT_FILENO, next as u64);
-            io::write_all(STDOUT_FILENO, b", smoothed ");
-            io::print_decimal(STDOUT_FILENO, smoothed as u64);
-        }
+        } => println!(rt; "count {count}, next {next}, smoothed {smoothed}"),
         PassAnswer::Refused(refusal) => {
-            io::write_all(STDOUT_FILENO, b"refused with ");
-            io::print_decimal(STDOUT_FILENO, pass_refusal_number(refusal) as u64);
+            let number = pass_refusal_number(refusal);
+            println!(rt; "refused with {number}")
         }
     }
-    io::write_all(STDOUT_FILENO, b"\n");
 }
 
 // A call on a grid of two macroblocks of mode Dc and flag 0.
@@ -215,40 +204,40 @@ fn filter_two(
 }
 
 // N: halted after one macroblock, then resumed. O: starts 2 and 3.
-fn two_macroblocks() {
+fn two_macroblocks(rt: &impl Print) -> io::Result<()> {
     let mut y = [0u8; 512];
     let mut u = [0u8; 128];
     let mut v = [0u8; 128];
     fill(&mut y, 16);
     fill(&mut u, 8);
     fill(&mut v, 8);
-    io::write_all(STDOUT_FILENO, b"N first call: ");
-    show_answer(filter_two(&mut y, &mut u, &mut v, 0, 1));
+    print!(rt; "N first call: ")?;
+    show_answer(rt, filter_two(&mut y, &mut u, &mut v, 0, 1))?;
     let y1 = y;
     let u1 = u;
     let v1 = v;
-    io::write_all(STDOUT_FILENO, b"N second call: ");
-    show_answer(filter_two(&mut y, &mut u, &mut v, 1, 1));
-    io::write_all(STDOUT_FILENO, b"N columns that it changes, y: ");
-    show_columns(&y, &y1, 32);
-    io::write_all(STDOUT_FILENO, b"N columns that it changes, u: ");
-    show_columns(&u, &u1, 16);
-    io::write_all(STDOUT_FILENO, b"N columns that it changes, v: ");
-    show_columns(&v, &v1, 16);
-    io::write_all(STDOUT_FILENO, b"O start 2: ");
-    show_answer(filter_two(&mut y, &mut u, &mut v, 2, 5));
-    io::write_all(STDOUT_FILENO, b"O start 3: ");
-    show_answer(filter_two(&mut y, &mut u, &mut v, 3, 5));
+    print!(rt; "N second call: ")?;
+    show_answer(rt, filter_two(&mut y, &mut u, &mut v, 1, 1))?;
+    print!(rt; "N columns that it changes, y: ")?;
+    show_columns(rt, &y, &y1, 32)?;
+    print!(rt; "N columns that it changes, u: ")?;
+    show_columns(rt, &u, &u1, 16)?;
+    print!(rt; "N columns that it changes, v: ")?;
+    show_columns(rt, &v, &v1, 16)?;
+    print!(rt; "O start 2: ")?;
+    show_answer(rt, filter_two(&mut y, &mut u, &mut v, 2, 5))?;
+    print!(rt; "O start 3: ")?;
+    show_answer(rt, filter_two(&mut y, &mut u, &mut v, 3, 5))
 }
 
-fn main() {
-    io::write_all(STDOUT_FILENO, b"M normal, key: ");
-    say(stays_at_every_level(false, false));
-    io::write_all(STDOUT_FILENO, b"M normal, inter: ");
-    say(stays_at_every_level(false, true));
-    io::write_all(STDOUT_FILENO, b"M simple, key: ");
-    say(stays_at_every_level(true, false));
-    io::write_all(STDOUT_FILENO, b"M simple, inter: ");
-    say(stays_at_every_level(true, true));
-    two_macroblocks();
+fn main(rt: HostRuntime) -> io::Result<()> {
+    print!(rt; "M normal, key: ")?;
+    say(&rt, stays_at_every_level(false, false))?;
+    print!(rt; "M normal, inter: ")?;
+    say(&rt, stays_at_every_level(false, true))?;
+    print!(rt; "M simple, key: ")?;
+    say(&rt, stays_at_every_level(true, false))?;
+    print!(rt; "M simple, inter: ")?;
+    say(&rt, stays_at_every_level(true, true))?;
+    two_macroblocks(&rt)
 }

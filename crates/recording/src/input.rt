@@ -1,10 +1,21 @@
 // The blocks of a recorded call and the numbers in them.
 use levels::config::FrameFilterConfig;
 use planes::layout::PlaneLayout;
+use std::io;
+use std::io::Read;
 
-// Whether the whole block was read.
-pub fn fill(block: &mut [u8]) -> bool {
-    io::read_full(0, block) == block.len()
+// Whether the whole block was read; it was not where the input ends in it.
+pub fn fill(rt: &impl Input, block: &mut [u8]) -> io::Result<bool> {
+    let mut input = rt.reader();
+    let mut done = 0;
+    while done < block.len() {
+        let count = input.read(&mut block[done..])?;
+        if count == 0 {
+            return Ok(false);
+        }
+        done += count;
+    }
+    Ok(true)
 }
 
 // Two bytes, the smallest first.
@@ -67,21 +78,21 @@ pub struct Place {
     pub whole: bool,
 }
 
-pub fn read_place() -> Place {
+pub fn read_place(rt: &impl Input) -> io::Result<Place> {
     let mut b = [0u8; 24];
-    let whole = fill(&mut b);
+    let whole = fill(rt, &mut b)?;
     let layout = PlaneLayout {
         mb_cols: size(b[0], b[1], b[2], b[3]),
         mb_rows: size(b[4], b[5], b[6], b[7]),
         y_stride: size(b[8], b[9], b[10], b[11]),
         uv_stride: size(b[12], b[13], b[14], b[15]),
     };
-    Place {
+    Ok(Place {
         layout: layout,
         start: size(b[16], b[17], b[18], b[19]),
         allowance: size(b[20], b[21], b[22], b[23]),
         whole: whole,
-    }
+    })
 }
 
 fn settings_of(b: &[u8; 31]) -> FrameFilterConfig {
@@ -117,13 +128,13 @@ pub struct Settings {
     pub whole: bool,
 }
 
-pub fn read_settings() -> Settings {
+pub fn read_settings(rt: &impl Input) -> io::Result<Settings> {
     let mut b = [0u8; 31];
-    let whole = fill(&mut b);
-    Settings {
+    let whole = fill(rt, &mut b)?;
+    Ok(Settings {
         config: settings_of(&b),
         whole: whole,
-    }
+    })
 }
 
 // A number of a refusal, or 0, and two numbers.
@@ -135,13 +146,13 @@ pub struct Recorded {
     pub whole: bool,
 }
 
-pub fn read_recorded() -> Recorded {
+pub fn read_recorded(rt: &impl Input) -> io::Result<Recorded> {
     let mut b = [0u8; 9];
-    let whole = fill(&mut b);
-    Recorded {
+    let whole = fill(rt, &mut b)?;
+    Ok(Recorded {
         refusal: b[0],
         first: size(b[1], b[2], b[3], b[4]),
         second: size(b[5], b[6], b[7], b[8]),
         whole: whole,
-    }
+    })
 }

@@ -1,5 +1,6 @@
 // Pictures of four macroblocks. The planes are longer than the grids need, so that strides can be wider; u and v differ in length, so that v alone can be too short.
 use crate::input::fill;
+use std::io;
 
 #[derive(Clone, Copy)]
 pub struct Picture {
@@ -9,17 +10,17 @@ pub struct Picture {
     pub whole: bool,
 }
 
-pub fn read_picture() -> Picture {
+pub fn read_picture(rt: &impl Input) -> io::Result<Picture> {
     let mut y = [0u8; 1280];
     let mut u = [0u8; 352];
     let mut v = [0u8; 348];
-    let whole = fill(&mut y) & fill(&mut u) & fill(&mut v);
-    Picture {
+    let whole = fill(rt, &mut y)? & fill(rt, &mut u)? & fill(rt, &mut v)?;
+    Ok(Picture {
         y: y,
         u: u,
         v: v,
         whole: whole,
-    }
+    })
 }
 
 // Nothing flat, so that filtering shows.
@@ -55,7 +56,7 @@ pub fn same_picture(a: Picture, b: Picture) -> bool {
     let y1 = b.y;
     let u1 = b.u;
     let v1 = b.v;
-    a.whole & b.whole & check::same(&y, &y1) & check::same(&u, &u1) & check::same(&v, &v1)
+    a.whole & b.whole & (y == y1) & (u == u1) & (v == v1)
 }
 
 // Document 01's byte lists.
@@ -69,20 +70,20 @@ pub struct Lists {
     pub whole: bool,
 }
 
-pub fn read_lists() -> Lists {
+pub fn read_lists(rt: &impl Input) -> io::Result<Lists> {
     let mut modes = [0u8; 4];
     let mut segments = [0u8; 4];
     let mut flags = [0u8; 4];
     let mut references = [0u8; 4];
     let mut inter_modes = [0u8; 4];
-    let first = fill(&mut modes) & fill(&mut segments) & fill(&mut flags);
-    let whole = first & fill(&mut references) & fill(&mut inter_modes);
-    Lists {
+    let first = fill(rt, &mut modes)? & fill(rt, &mut segments)? & fill(rt, &mut flags)?;
+    let whole = first & fill(rt, &mut references)? & fill(rt, &mut inter_modes)?;
+    Ok(Lists {
         modes: modes,
         segments: segments,
         flags: flags,
         references: references,
         inter_modes: inter_modes,
         whole: whole,
-    }
+    })
 }

@@ -4,6 +4,7 @@ use calls::answers::PassAnswer;
 use frame::pass::{filter_frame, filter_inter_frame};
 use levels::config::FrameFilterConfig;
 use recording::input::{Place, fill, read_place, read_recorded, read_settings};
+use std::io;
 
 #[derive(Clone, Copy)]
 struct Lists16 {
@@ -15,22 +16,22 @@ struct Lists16 {
     whole: bool,
 }
 
-fn film64_lists() -> Lists16 {
+fn film64_lists(rt: &impl Input) -> io::Result<Lists16> {
     let mut modes = [0u8; 16];
     let mut segments = [0u8; 16];
     let mut flags = [0u8; 16];
     let mut references = [0u8; 16];
     let mut inter_modes = [0u8; 16];
-    let first = fill(&mut modes) & fill(&mut segments) & fill(&mut flags);
-    let whole = first & fill(&mut references) & fill(&mut inter_modes);
-    Lists16 {
+    let first = fill(rt, &mut modes)? & fill(rt, &mut segments)? & fill(rt, &mut flags)?;
+    let whole = first & fill(rt, &mut references)? & fill(rt, &mut inter_modes)?;
+    Ok(Lists16 {
         modes: modes,
         segments: segments,
         flags: flags,
         references: references,
         inter_modes: inter_modes,
         whole: whole,
-    }
+    })
 }
 
 fn film64_key(
@@ -115,30 +116,35 @@ fn film64_inter(
 }
 
 // Reads the planes after the pass.
-fn film64_left(y: &[u8; 4096], u: &[u8; 1024], v: &[u8; 1024]) -> bool {
+fn film64_left(
+    rt: &impl Input,
+    y: &[u8; 4096],
+    u: &[u8; 1024],
+    v: &[u8; 1024],
+) -> io::Result<bool> {
     let mut y1 = [0u8; 4096];
     let mut u1 = [0u8; 1024];
     let mut v1 = [0u8; 1024];
-    let whole = fill(&mut y1) & fill(&mut u1) & fill(&mut v1);
-    whole & check::same(y, &y1) & check::same(u, &u1) & check::same(v, &v1)
+    let whole = fill(rt, &mut y1)? & fill(rt, &mut u1)? & fill(rt, &mut v1)?;
+    Ok(whole & (*y == y1) & (*u == u1) & (*v == v1))
 }
 
-pub fn replay_film64(of_key: bool) -> bool {
-    let p = read_place();
-    let s = read_settings();
-    let r = read_recorded();
-    let l = film64_lists();
+pub fn replay_film64(rt: &impl Input, of_key: bool) -> io::Result<bool> {
+    let p = read_place(rt)?;
+    let s = read_settings(rt)?;
+    let r = read_recorded(rt)?;
+    let l = film64_lists(rt)?;
     let mut y = [0u8; 4096];
     let mut u = [0u8; 1024];
     let mut v = [0u8; 1024];
-    let planes = fill(&mut y) & fill(&mut u) & fill(&mut v);
+    let planes = fill(rt, &mut y)? & fill(rt, &mut u)? & fill(rt, &mut v)?;
     let answer = if of_key {
         film64_key(&mut y, &mut u, &mut v, p, s.config, l)
     } else {
         film64_inter(&mut y, &mut u, &mut v, p, s.config, l)
     };
     let whole = p.whole & s.whole & r.whole & l.whole & planes;
-    whole & answered(answer, r) & film64_left(&y, &u, &v)
+    Ok(whole & answered(answer, r) & film64_left(rt, &y, &u, &v)?)
 }
 
 #[derive(Clone, Copy)]
@@ -151,22 +157,22 @@ struct Lists1 {
     whole: bool,
 }
 
-fn film16_lists() -> Lists1 {
+fn film16_lists(rt: &impl Input) -> io::Result<Lists1> {
     let mut modes = [0u8; 1];
     let mut segments = [0u8; 1];
     let mut flags = [0u8; 1];
     let mut references = [0u8; 1];
     let mut inter_modes = [0u8; 1];
-    let first = fill(&mut modes) & fill(&mut segments) & fill(&mut flags);
-    let whole = first & fill(&mut references) & fill(&mut inter_modes);
-    Lists1 {
+    let first = fill(rt, &mut modes)? & fill(rt, &mut segments)? & fill(rt, &mut flags)?;
+    let whole = first & fill(rt, &mut references)? & fill(rt, &mut inter_modes)?;
+    Ok(Lists1 {
         modes: modes,
         segments: segments,
         flags: flags,
         references: references,
         inter_modes: inter_modes,
         whole: whole,
-    }
+    })
 }
 
 fn film16_key(
@@ -250,28 +256,28 @@ fn film16_inter(
 }
 
 // Reads the planes after the pass.
-fn film16_left(y: &[u8; 256], u: &[u8; 64], v: &[u8; 64]) -> bool {
+fn film16_left(rt: &impl Input, y: &[u8; 256], u: &[u8; 64], v: &[u8; 64]) -> io::Result<bool> {
     let mut y1 = [0u8; 256];
     let mut u1 = [0u8; 64];
     let mut v1 = [0u8; 64];
-    let whole = fill(&mut y1) & fill(&mut u1) & fill(&mut v1);
-    whole & check::same(y, &y1) & check::same(u, &u1) & check::same(v, &v1)
+    let whole = fill(rt, &mut y1)? & fill(rt, &mut u1)? & fill(rt, &mut v1)?;
+    Ok(whole & (*y == y1) & (*u == u1) & (*v == v1))
 }
 
-pub fn replay_film16(of_key: bool) -> bool {
-    let p = read_place();
-    let s = read_settings();
-    let r = read_recorded();
-    let l = film16_lists();
+pub fn replay_film16(rt: &impl Input, of_key: bool) -> io::Result<bool> {
+    let p = read_place(rt)?;
+    let s = read_settings(rt)?;
+    let r = read_recorded(rt)?;
+    let l = film16_lists(rt)?;
     let mut y = [0u8; 256];
     let mut u = [0u8; 64];
     let mut v = [0u8; 64];
-    let planes = fill(&mut y) & fill(&mut u) & fill(&mut v);
+    let planes = fill(rt, &mut y)? & fill(rt, &mut u)? & fill(rt, &mut v)?;
     let answer = if of_key {
         film16_key(&mut y, &mut u, &mut v, p, s.config, l)
     } else {
         film16_inter(&mut y, &mut u, &mut v, p, s.config, l)
     };
     let whole = p.whole & s.whole & r.whole & l.whole & planes;
-    whole & answered(answer, r) & film16_left(&y, &u, &v)
+    Ok(whole & answered(answer, r) & film16_left(rt, &y, &u, &v)?)
 }

@@ -29,8 +29,9 @@ use planes::layout::PlaneLayout;
 use recording::input::{Place, read_place, read_recorded, read_settings};
 use recording::marks::{begin_section, end_recording, end_section, mark};
 use recording::picture::{Picture, read_picture, stripes};
+use std::io;
 
-// Passes and frame calls over records take a lent slice of them. A caller that lends one is proved by hand, so there is one such caller of each only.
+// The passes and frame calls over records, on lists of four.
 pub fn key_four(
     y: &mut [u8],
     u: &mut [u8],
@@ -137,134 +138,135 @@ fn over_records(
 }
 
 // Place, settings, records, the answer, the picture before and after.
-fn replay_records(of_key: bool, frame: bool) -> bool {
-    let p = read_place();
-    let s = read_settings();
-    let l = read_records();
-    let r = read_recorded();
-    let before = read_picture();
-    let after = read_picture();
+fn replay_records(rt: &impl Input, of_key: bool, frame: bool) -> io::Result<bool> {
+    let p = read_place(rt)?;
+    let s = read_settings(rt)?;
+    let l = read_records(rt)?;
+    let r = read_recorded(rt)?;
+    let before = read_picture(rt)?;
+    let after = read_picture(rt)?;
     let list = l.list;
     let left = over_records(of_key, frame, before, p, s.config, list);
-    p.whole & s.whole & l.whole & is_left(left, after, r)
+    Ok(p.whole & s.whole & l.whole & is_left(left, after, r))
 }
 
 // The same without pictures: nothing may change.
-fn replay_idle_records(of_key: bool, frame: bool) -> bool {
-    let p = read_place();
-    let s = read_settings();
-    let l = read_records();
-    let r = read_recorded();
+fn replay_idle_records(rt: &impl Input, of_key: bool, frame: bool) -> io::Result<bool> {
+    let p = read_place(rt)?;
+    let s = read_settings(rt)?;
+    let l = read_records(rt)?;
+    let r = read_recorded(rt)?;
     let list = l.list;
     let left = over_records(of_key, frame, stripes(), p, s.config, list);
-    p.whole & s.whole & l.whole & is_left(left, stripes(), r)
+    Ok(p.whole & s.whole & l.whole & is_left(left, stripes(), r))
 }
 
 // One record of a kind.
-fn replay(kind: u8) -> bool {
+fn replay(rt: &(impl Input + Print), kind: u8) -> io::Result<bool> {
     match kind {
-        0 => replay_clamp(),
-        1 => replay_u2s(),
-        2 => replay_s2u(),
-        3 => replay_derive(),
-        4 => replay_adjust(),
-        5 => replay_simple(),
-        6 => replay_subblock(),
-        7 => replay_macroblock(),
-        8 => replay_key_level(),
-        9 => replay_inter_level(),
-        10 => replay_coefficients(),
-        11 => replay_final_rows(),
-        12 => replay_pass(true, false),
-        13 => replay_pass(false, false),
-        14 => replay_idle(true, false),
-        15 => replay_idle(false, false),
-        16 => replay_halted(true, false),
-        17 => replay_halted(false, false),
-        18 => replay_records(true, false),
-        19 => replay_records(false, false),
-        20 => replay_idle_records(true, false),
-        21 => replay_idle_records(false, false),
-        22 => replay_film64(true),
-        23 => replay_film64(false),
-        24 => replay_film16(true),
-        25 => replay_film16(false),
-        26 => replay_pass(true, true),
-        27 => replay_pass(false, true),
-        28 => replay_idle(true, true),
-        29 => replay_idle(false, true),
-        30 => replay_halted(true, true),
-        31 => replay_halted(false, true),
-        32 => replay_records(true, true),
-        33 => replay_records(false, true),
-        34 => replay_idle_records(true, true),
-        35 => replay_idle_records(false, true),
-        _ => false,
+        0 => replay_clamp(rt),
+        1 => replay_u2s(rt),
+        2 => replay_s2u(rt),
+        3 => replay_derive(rt),
+        4 => replay_adjust(rt),
+        5 => replay_simple(rt),
+        6 => replay_subblock(rt),
+        7 => replay_macroblock(rt),
+        8 => replay_key_level(rt),
+        9 => replay_inter_level(rt),
+        10 => replay_coefficients(rt),
+        11 => replay_final_rows(rt),
+        12 => replay_pass(rt, true, false),
+        13 => replay_pass(rt, false, false),
+        14 => replay_idle(rt, true, false),
+        15 => replay_idle(rt, false, false),
+        16 => replay_halted(rt, true, false),
+        17 => replay_halted(rt, false, false),
+        18 => replay_records(rt, true, false),
+        19 => replay_records(rt, false, false),
+        20 => replay_idle_records(rt, true, false),
+        21 => replay_idle_records(rt, false, false),
+        22 => replay_film64(rt, true),
+        23 => replay_film64(rt, false),
+        24 => replay_film16(rt, true),
+        25 => replay_film16(rt, false),
+        26 => replay_pass(rt, true, true),
+        27 => replay_pass(rt, false, true),
+        28 => replay_idle(rt, true, true),
+        29 => replay_idle(rt, false, true),
+        30 => replay_halted(rt, true, true),
+        31 => replay_halted(rt, false, true),
+        32 => replay_records(rt, true, true),
+        33 => replay_records(rt, false, true),
+        34 => replay_idle_records(rt, true, true),
+        35 => replay_idle_records(rt, false, true),
+        _ => Ok(false),
     }
 }
 
-fn replay_many(kind: u8, count: u16) {
+fn replay_many(rt: &(impl Input + Print), kind: u8, count: u16) -> io::Result<()> {
     let mut left = count;
     while left > 0 {
-        mark(replay(kind));
+        mark(rt, replay(rt, kind)?)?;
         left -= 1;
     }
+    Ok(())
 }
 
-fn section(name: &[u8], kind: u8) {
-    let count = begin_section(name);
-    replay_many(kind, count);
-    end_section();
+fn section(rt: &(impl Input + Print), name: &[u8], kind: u8) -> io::Result<()> {
+    let count = begin_section(rt, name)?;
+    replay_many(rt, kind, count)?;
+    end_section(rt)
 }
 
-fn small_sections() {
-    section(b"clamp_s8", 0);
-    section(b"u2s", 1);
-    section(b"s2u", 2);
-    section(b"derive", 3);
-    section(b"common_adjust", 4);
-    section(b"simple_segment", 5);
-    section(b"subblock_filter", 6);
-    section(b"mb_filter", 7);
-    section(b"calculate_mb_filter_level", 8);
-    section(b"calculate_mb_filter_level_inter", 9);
-    section(b"mb_has_coeffs", 10);
-    section(b"final_rows", 11);
+fn small_sections(rt: &(impl Input + Print)) -> io::Result<()> {
+    section(rt, b"clamp_s8", 0)?;
+    section(rt, b"u2s", 1)?;
+    section(rt, b"s2u", 2)?;
+    section(rt, b"derive", 3)?;
+    section(rt, b"common_adjust", 4)?;
+    section(rt, b"simple_segment", 5)?;
+    section(rt, b"subblock_filter", 6)?;
+    section(rt, b"mb_filter", 7)?;
+    section(rt, b"calculate_mb_filter_level", 8)?;
+    section(rt, b"calculate_mb_filter_level_inter", 9)?;
+    section(rt, b"mb_has_coeffs", 10)?;
+    section(rt, b"final_rows", 11)
 }
 
-fn pass_sections() {
-    section(b"filter_frame", 12);
-    section(b"filter_inter_frame", 13);
-    section(b"filter_frame, nothing changes", 14);
-    section(b"filter_inter_frame, nothing changes", 15);
-    section(b"filter_frame, halted and resumed", 16);
-    section(b"filter_inter_frame, halted and resumed", 17);
-    section(b"filter_frame_records", 18);
-    section(b"filter_inter_frame_records", 19);
-    section(b"filter_frame_records, nothing changes", 20);
-    section(b"filter_inter_frame_records, nothing changes", 21);
-    section(b"filter_frame, film 64x64", 22);
-    section(b"filter_inter_frame, film 64x64", 23);
-    section(b"filter_frame, film 16x16", 24);
-    section(b"filter_inter_frame, film 16x16", 25);
+fn pass_sections(rt: &(impl Input + Print)) -> io::Result<()> {
+    section(rt, b"filter_frame", 12)?;
+    section(rt, b"filter_inter_frame", 13)?;
+    section(rt, b"filter_frame, nothing changes", 14)?;
+    section(rt, b"filter_inter_frame, nothing changes", 15)?;
+    section(rt, b"filter_frame, halted and resumed", 16)?;
+    section(rt, b"filter_inter_frame, halted and resumed", 17)?;
+    section(rt, b"filter_frame_records", 18)?;
+    section(rt, b"filter_inter_frame_records", 19)?;
+    section(rt, b"filter_frame_records, nothing changes", 20)?;
+    section(rt, b"filter_inter_frame_records, nothing changes", 21)?;
+    section(rt, b"filter_frame, film 64x64", 22)?;
+    section(rt, b"filter_inter_frame, film 64x64", 23)?;
+    section(rt, b"filter_frame, film 16x16", 24)?;
+    section(rt, b"filter_inter_frame, film 16x16", 25)
 }
 
-fn frame_sections() {
-    section(b"loop_filter_frame", 26);
-    section(b"loop_filter_inter_frame", 27);
-    section(b"loop_filter_frame, nothing changes", 28);
-    section(b"loop_filter_inter_frame, nothing changes", 29);
-    section(b"loop_filter_frame, halted and resumed", 30);
-    section(b"loop_filter_inter_frame, halted and resumed", 31);
-    section(b"loop_filter_frame_records", 32);
-    section(b"loop_filter_inter_frame_records", 33);
-    section(b"loop_filter_frame_records, nothing changes", 34);
-    section(b"loop_filter_inter_frame_records, nothing changes", 35);
+fn frame_sections(rt: &(impl Input + Print)) -> io::Result<()> {
+    section(rt, b"loop_filter_frame", 26)?;
+    section(rt, b"loop_filter_inter_frame", 27)?;
+    section(rt, b"loop_filter_frame, nothing changes", 28)?;
+    section(rt, b"loop_filter_inter_frame, nothing changes", 29)?;
+    section(rt, b"loop_filter_frame, halted and resumed", 30)?;
+    section(rt, b"loop_filter_inter_frame, halted and resumed", 31)?;
+    section(rt, b"loop_filter_frame_records", 32)?;
+    section(rt, b"loop_filter_inter_frame_records", 33)?;
+    section(rt, b"loop_filter_frame_records, nothing changes", 34)?;
+    section(rt, b"loop_filter_inter_frame_records, nothing changes", 35)
 }
 
-fn main() {
-    small_sections();
-    pass_sections();
-    frame_sections();
-    end_recording();
+fn main(rt: HostRuntime) -> io::Result<()> {
+    small_sections(&rt)?;
+    pass_sections(&rt)?;
+    frame_sections(&rt)?;
+    end_recording(&rt)
 }

@@ -6,6 +6,7 @@ use levels::config::FrameFilterConfig;
 use recording::input::{Place, Recorded, read_place, read_recorded, read_settings};
 use recording::marks::mark;
 use recording::picture::{Lists, Picture, read_lists, read_picture, same_picture, stripes};
+use std::io;
 
 // What a pass answers and leaves.
 #[derive(Clone, Copy)]
@@ -190,37 +191,37 @@ pub fn is_left(left: Left, after: Picture, r: Recorded) -> bool {
 }
 
 // Place, settings, lists, the answer, the picture before and after.
-pub fn replay_pass(of_key: bool, frame: bool) -> bool {
-    let p = read_place();
-    let s = read_settings();
-    let l = read_lists();
-    let r = read_recorded();
-    let before = read_picture();
-    let after = read_picture();
+pub fn replay_pass(rt: &impl Input, of_key: bool, frame: bool) -> io::Result<bool> {
+    let p = read_place(rt)?;
+    let s = read_settings(rt)?;
+    let l = read_lists(rt)?;
+    let r = read_recorded(rt)?;
+    let before = read_picture(rt)?;
+    let after = read_picture(rt)?;
     let left = pass(of_key, frame, before, p, s.config, l);
-    p.whole & s.whole & l.whole & is_left(left, after, r)
+    Ok(p.whole & s.whole & l.whole & is_left(left, after, r))
 }
 
 // The same without pictures: nothing may change.
-pub fn replay_idle(of_key: bool, frame: bool) -> bool {
-    let p = read_place();
-    let s = read_settings();
-    let l = read_lists();
-    let r = read_recorded();
+pub fn replay_idle(rt: &impl Input, of_key: bool, frame: bool) -> io::Result<bool> {
+    let p = read_place(rt)?;
+    let s = read_settings(rt)?;
+    let l = read_lists(rt)?;
+    let r = read_recorded(rt)?;
     let left = pass(of_key, frame, stripes(), p, s.config, l);
-    p.whole & s.whole & l.whole & is_left(left, stripes(), r)
+    Ok(p.whole & s.whole & l.whole & is_left(left, stripes(), r))
 }
 
 // A halted call and the one that goes on where it ended, to the end of the grid.
-pub fn replay_halted(of_key: bool, frame: bool) -> bool {
-    let p = read_place();
-    let s = read_settings();
-    let l = read_lists();
-    let before = read_picture();
-    let r1 = read_recorded();
-    let middle = read_picture();
-    let r2 = read_recorded();
-    let after = read_picture();
+pub fn replay_halted(rt: &(impl Input + Print), of_key: bool, frame: bool) -> io::Result<bool> {
+    let p = read_place(rt)?;
+    let s = read_settings(rt)?;
+    let l = read_lists(rt)?;
+    let before = read_picture(rt)?;
+    let r1 = read_recorded(rt)?;
+    let middle = read_picture(rt)?;
+    let r2 = read_recorded(rt)?;
+    let after = read_picture(rt)?;
     let first = pass(of_key, frame, before, p, s.config, l);
     let halted = first.picture;
     let layout = p.layout;
@@ -232,6 +233,6 @@ pub fn replay_halted(of_key: bool, frame: bool) -> bool {
     };
     let second = pass(of_key, frame, halted, rest, s.config, l);
     let whole = p.whole & s.whole & l.whole;
-    mark(whole & is_left(first, middle, r1));
-    whole & is_left(second, after, r2)
+    mark(rt, whole & is_left(first, middle, r1))?;
+    Ok(whole & is_left(second, after, r2))
 }

@@ -2,6 +2,7 @@
 use calls::records::{MacroblockModes, MaybeSegment};
 use levels::modes::{InterMode, IntraYMode, MaybeInter, MaybeRef, RefFrame};
 use recording::input::fill;
+use std::io;
 
 fn mode(byte: u8) -> IntraYMode {
     match byte {
@@ -58,17 +59,17 @@ pub struct Records {
     pub whole: bool,
 }
 
-pub fn read_records() -> Records {
+pub fn read_records(rt: &impl Input) -> io::Result<Records> {
     let mut b = [0u8; 24];
-    let whole = fill(&mut b);
+    let whole = fill(rt, &mut b)?;
     let list = [
         record(b[0], b[1], b[2], b[3], b[4], b[5]),
         record(b[6], b[7], b[8], b[9], b[10], b[11]),
         record(b[12], b[13], b[14], b[15], b[16], b[17]),
         record(b[18], b[19], b[20], b[21], b[22], b[23]),
     ];
-    Records {
+    Ok(Records {
         list: list,
         whole: whole,
-    }
+    })
 }

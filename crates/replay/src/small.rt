@@ -10,34 +10,37 @@ use levels::level::{LevelAnswer, calculate_mb_filter_level, calculate_mb_filter_
 use recording::input::{
     fill, read_place, read_recorded, read_settings, signed8, signed16, signed32, size,
 };
+use std::io;
 
-pub fn replay_clamp() -> bool {
+pub fn replay_clamp(rt: &impl Input) -> io::Result<bool> {
     let mut b = [0u8; 5];
-    let whole = fill(&mut b);
-    whole & (clamp_s8(signed32(b[0], b[1], b[2], b[3])) == signed8(b[4]))
+    let whole = fill(rt, &mut b)?;
+    Ok(whole & (clamp_s8(signed32(b[0], b[1], b[2], b[3])) == signed8(b[4])))
 }
 
-pub fn replay_u2s() -> bool {
+pub fn replay_u2s(rt: &impl Input) -> io::Result<bool> {
     let mut b = [0u8; 2];
-    let whole = fill(&mut b);
-    whole & (u2s(b[0]) == signed8(b[1]))
+    let whole = fill(rt, &mut b)?;
+    Ok(whole & (u2s(b[0]) == signed8(b[1])))
 }
 
-pub fn replay_s2u() -> bool {
+pub fn replay_s2u(rt: &impl Input) -> io::Result<bool> {
     let mut b = [0u8; 5];
-    let whole = fill(&mut b);
-    whole & (s2u(signed32(b[0], b[1], b[2], b[3])) == b[4])
+    let whole = fill(rt, &mut b)?;
+    Ok(whole & (s2u(signed32(b[0], b[1], b[2], b[3])) == b[4]))
 }
 
-pub fn replay_derive() -> bool {
+pub fn replay_derive(rt: &impl Input) -> io::Result<bool> {
     let mut b = [0u8; 7];
-    let whole = fill(&mut b);
+    let whole = fill(rt, &mut b)?;
     let p = LoopFilterParams::derive(b[0], b[1], b[2] != 0);
-    whole
-        & (p.interior_limit == b[3])
-        & (p.hev_threshold == b[4])
-        & (p.mbedge_limit == b[5])
-        & (p.sub_bedge_limit == b[6])
+    Ok(
+        whole
+            & (p.interior_limit == b[3])
+            & (p.hev_threshold == b[4])
+            & (p.mbedge_limit == b[5])
+            & (p.sub_bedge_limit == b[6]),
+    )
 }
 
 fn adjusted(answer: AdjustAnswer, refusal: u8, by: i32) -> bool {
@@ -48,14 +51,14 @@ fn adjusted(answer: AdjustAnswer, refusal: u8, by: i32) -> bool {
 }
 
 // A mark, the base, the refusal and the adjustment; the samples before and after.
-pub fn replay_adjust() -> bool {
+pub fn replay_adjust(rt: &impl Input) -> io::Result<bool> {
     let mut b = [0u8; 10];
     let mut seg = [0u8; 16];
     let mut after = [0u8; 16];
-    let whole = fill(&mut b) & fill(&mut seg) & fill(&mut after);
+    let whole = fill(rt, &mut b)? & fill(rt, &mut seg)? & fill(rt, &mut after)?;
     let answer = common_adjust(b[0] != 0, &mut seg, size(b[1], b[2], b[3], b[4]));
     let by = signed32(b[6], b[7], b[8], b[9]);
-    whole & adjusted(answer, b[5], by) & check::same(&seg, &after)
+    Ok(whole & adjusted(answer, b[5], by) & (seg == after))
 }
 
 fn done(answer: KernelAnswer, refusal: u8) -> bool {
@@ -66,34 +69,34 @@ fn done(answer: KernelAnswer, refusal: u8) -> bool {
 }
 
 // The edge limit, the base and the refusal; the samples before and after.
-pub fn replay_simple() -> bool {
+pub fn replay_simple(rt: &impl Input) -> io::Result<bool> {
     let mut b = [0u8; 6];
     let mut seg = [0u8; 16];
     let mut after = [0u8; 16];
-    let whole = fill(&mut b) & fill(&mut seg) & fill(&mut after);
+    let whole = fill(rt, &mut b)? & fill(rt, &mut seg)? & fill(rt, &mut after)?;
     let answer = simple_segment(b[0], &mut seg, size(b[1], b[2], b[3], b[4]));
-    whole & done(answer, b[5]) & check::same(&seg, &after)
+    Ok(whole & done(answer, b[5]) & (seg == after))
 }
 
 // Threshold, interior and edge limit, the base and the refusal; the samples before and after.
-pub fn replay_subblock() -> bool {
+pub fn replay_subblock(rt: &impl Input) -> io::Result<bool> {
     let mut b = [0u8; 8];
     let mut seg = [0u8; 16];
     let mut after = [0u8; 16];
-    let whole = fill(&mut b) & fill(&mut seg) & fill(&mut after);
+    let whole = fill(rt, &mut b)? & fill(rt, &mut seg)? & fill(rt, &mut after)?;
     let base = size(b[3], b[4], b[5], b[6]);
     let answer = subblock_filter(b[0], b[1], b[2], &mut seg, base);
-    whole & done(answer, b[7]) & check::same(&seg, &after)
+    Ok(whole & done(answer, b[7]) & (seg == after))
 }
 
-pub fn replay_macroblock() -> bool {
+pub fn replay_macroblock(rt: &impl Input) -> io::Result<bool> {
     let mut b = [0u8; 8];
     let mut seg = [0u8; 16];
     let mut after = [0u8; 16];
-    let whole = fill(&mut b) & fill(&mut seg) & fill(&mut after);
+    let whole = fill(rt, &mut b)? & fill(rt, &mut seg)? & fill(rt, &mut after)?;
     let base = size(b[3], b[4], b[5], b[6]);
     let answer = mb_filter(b[0], b[1], b[2], &mut seg, base);
-    whole & done(answer, b[7]) & check::same(&seg, &after)
+    Ok(whole & done(answer, b[7]) & (seg == after))
 }
 
 fn levelled(answer: LevelAnswer, refusal: u8, level: u8) -> bool {
@@ -104,21 +107,21 @@ fn levelled(answer: LevelAnswer, refusal: u8, level: u8) -> bool {
 }
 
 // The settings; segment, mode, refusal and level.
-pub fn replay_key_level() -> bool {
-    let s = read_settings();
+pub fn replay_key_level(rt: &impl Input) -> io::Result<bool> {
+    let s = read_settings(rt)?;
     let mut b = [0u8; 4];
-    let whole = fill(&mut b);
+    let whole = fill(rt, &mut b)?;
     let answer = calculate_mb_filter_level(s.config, b[0], b[1]);
-    s.whole & whole & levelled(answer, b[2], b[3])
+    Ok(s.whole & whole & levelled(answer, b[2], b[3]))
 }
 
 // The settings; segment, reference, inter mode, mode, refusal and level.
-pub fn replay_inter_level() -> bool {
-    let s = read_settings();
+pub fn replay_inter_level(rt: &impl Input) -> io::Result<bool> {
+    let s = read_settings(rt)?;
     let mut b = [0u8; 6];
-    let whole = fill(&mut b);
+    let whole = fill(rt, &mut b)?;
     let answer = calculate_mb_filter_level_inter(s.config, b[0], b[1], b[2], b[3]);
-    s.whole & whole & levelled(answer, b[4], b[5])
+    Ok(s.whole & whole & levelled(answer, b[4], b[5]))
 }
 
 fn any(coefficients: &[i16; 400]) -> bool {
@@ -126,15 +129,15 @@ fn any(coefficients: &[i16; 400]) -> bool {
 }
 
 // 400 coefficients, all 0 but the one at `at`, where there is one; and whether there are any.
-pub fn replay_coefficients() -> bool {
+pub fn replay_coefficients(rt: &impl Input) -> io::Result<bool> {
     let mut b = [0u8; 7];
-    let whole = fill(&mut b);
+    let whole = fill(rt, &mut b)?;
     let at = size(b[0], b[1], b[2], b[3]);
     let mut coefficients = [0i16; 400];
     if at < 400 {
         coefficients[at] = signed16(b[4], b[5]);
     }
-    whole & (any(&coefficients) == (b[6] != 0))
+    Ok(whole & (any(&coefficients) == (b[6] != 0)))
 }
 
 fn rows_are(answer: FinalRowsAnswer, refusal: u8, first: usize, second: usize) -> bool {
@@ -146,9 +149,9 @@ fn rows_are(answer: FinalRowsAnswer, refusal: u8, first: usize, second: usize) -
     }
 }
 
-pub fn replay_final_rows() -> bool {
-    let p = read_place();
-    let r = read_recorded();
+pub fn replay_final_rows(rt: &impl Input) -> io::Result<bool> {
+    let p = read_place(rt)?;
+    let r = read_recorded(rt)?;
     let answer = final_rows(p.layout, p.start);
-    p.whole & r.whole & rows_are(answer, r.refusal, r.first, r.second)
+    Ok(p.whole & r.whole & rows_are(answer, r.refusal, r.first, r.second))
 }

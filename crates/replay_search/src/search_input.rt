@@ -4,6 +4,7 @@ use planes::layout::PlaneLayout;
 use recording::input::{fill, read_place, read_settings, size};
 use recording::picture::stripe;
 use search::answers::{LevelOnlyAnswer, ParamsAnswer};
+use std::io;
 use sums::answers::{SumAnswer, search_refusal_number};
 
 // Scratch planes. y and u are shorter than those of a picture, so that they alone can be too short.
@@ -31,17 +32,17 @@ pub fn striped_scratch() -> Scratch {
     }
 }
 
-pub fn read_scratch() -> Scratch {
+pub fn read_scratch(rt: &impl Input) -> io::Result<Scratch> {
     let mut y = [0u8; 1264];
     let mut u = [0u8; 344];
     let mut v = [0u8; 352];
-    let whole = fill(&mut y) & fill(&mut u) & fill(&mut v);
-    Scratch {
+    let whole = fill(rt, &mut y)? & fill(rt, &mut u)? & fill(rt, &mut v)?;
+    Ok(Scratch {
         y: y,
         u: u,
         v: v,
         whole: whole,
-    }
+    })
 }
 
 // Every sample, also those outside the grid.
@@ -52,7 +53,7 @@ pub fn same_scratch(a: Scratch, b: Scratch) -> bool {
     let y1 = b.y;
     let u1 = b.u;
     let v1 = b.v;
-    a.whole & b.whole & check::same(&y, &y1) & check::same(&u, &u1) & check::same(&v, &v1)
+    a.whole & b.whole & (y == y1) & (u == u1) & (v == v1)
 }
 
 // The reconstruction's grid and settings, and the size and strides of the source.
@@ -67,14 +68,14 @@ pub struct Task {
     pub whole: bool,
 }
 
-pub fn read_task() -> Task {
-    let p = read_place();
-    let s = read_settings();
+pub fn read_task(rt: &impl Input) -> io::Result<Task> {
+    let p = read_place(rt)?;
+    let s = read_settings(rt)?;
     let mut b = [0u8; 8];
-    let whole = fill(&mut b);
+    let whole = fill(rt, &mut b)?;
     let layout = p.layout;
     let config = s.config;
-    Task {
+    Ok(Task {
         layout: layout,
         config: config,
         width: p.start,
@@ -82,7 +83,7 @@ pub fn read_task() -> Task {
         y_stride: size(b[0], b[1], b[2], b[3]),
         uv_stride: size(b[4], b[5], b[6], b[7]),
         whole: p.whole & s.whole & whole,
-    }
+    })
 }
 
 // What a search answers: the number of a refusal, or 0; and the choice.
@@ -95,16 +96,16 @@ pub struct Choice {
     pub whole: bool,
 }
 
-pub fn read_choice() -> Choice {
+pub fn read_choice(rt: &impl Input) -> io::Result<Choice> {
     let mut b = [0u8; 7];
-    let whole = fill(&mut b);
-    Choice {
+    let whole = fill(rt, &mut b)?;
+    Ok(Choice {
         refusal: b[0],
         level: b[1],
         sharpness: b[2],
         count: size(b[3], b[4], b[5], b[6]),
         whole: whole,
-    }
+    })
 }
 
 fn refused(number: u8) -> Choice {

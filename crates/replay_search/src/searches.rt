@@ -9,6 +9,7 @@ use recording::picture::{Lists, Picture, read_lists, read_picture, stripes};
 use search::answers::{LevelOnlyAnswer, ParamsAnswer};
 use search::search::{select_filter_level, select_filter_level_inter, select_filter_params_inter};
 use source::borrowed::{reconstruction_ssd_from, select_filter_params_from};
+use std::io;
 use sums::answers::SumAnswer;
 use sums::sums::reconstruction_ssd;
 
@@ -218,7 +219,13 @@ fn inter_level<'s>(
 }
 
 // Marks both sums.
-fn replay_sums(rec: Picture, src: Picture, t: Task, r: Recorded) {
+fn replay_sums(
+    rt: &impl Print,
+    rec: Picture,
+    src: Picture,
+    t: Task,
+    r: Recorded,
+) -> io::Result<()> {
     let y = rec.y;
     let u = rec.u;
     let v = rec.v;
@@ -228,9 +235,9 @@ fn replay_sums(rec: Picture, src: Picture, t: Task, r: Recorded) {
     let whole = rec.whole & src.whole & t.whole & r.whole;
     let recorded = r.first as u64;
     let own = sum(&y, &u, &v, &sy, &su, &sv, t);
-    mark(whole & same_sum(own, r.refusal, recorded));
+    mark(rt, whole & same_sum(own, r.refusal, recorded))?;
     let passed_on = sum_from(&y, &u, &v, &sy, &su, &sv, t);
-    mark(whole & same_sum(passed_on, r.refusal, recorded));
+    mark(rt, whole & same_sum(passed_on, r.refusal, recorded))
 }
 
 // What a search answers and leaves.
@@ -406,45 +413,69 @@ fn is_found(found: Found, c: Choice, after: Scratch) -> bool {
     same_choice(choice, c) & same_scratch(now, after)
 }
 
-fn replay_key(rec: Picture, src: Picture, after: Scratch, t: Task, l: Lists, c: Choice) -> bool {
+fn replay_key(
+    rt: &impl Print,
+    rec: Picture,
+    src: Picture,
+    after: Scratch,
+    t: Task,
+    l: Lists,
+    c: Choice,
+) -> io::Result<bool> {
     let both = find_key_params(rec, src, t, l);
-    mark(l.whole & is_found(both, c, after));
+    mark(rt, l.whole & is_found(both, c, after))?;
     let level_alone = find_key_level(rec, src, t, l, c.sharpness);
-    l.whole & is_found(level_alone, c, after)
+    Ok(l.whole & is_found(level_alone, c, after))
 }
 
-fn replay_inter(rec: Picture, src: Picture, after: Scratch, t: Task, l: Lists, c: Choice) -> bool {
+fn replay_inter(
+    rt: &impl Print,
+    rec: Picture,
+    src: Picture,
+    after: Scratch,
+    t: Task,
+    l: Lists,
+    c: Choice,
+) -> io::Result<bool> {
     let both = find_inter_params(rec, src, t, l);
-    mark(l.whole & is_found(both, c, after));
+    mark(rt, l.whole & is_found(both, c, after))?;
     let level_alone = find_inter_level(rec, src, t, l, c.sharpness);
-    l.whole & is_found(level_alone, c, after)
+    Ok(l.whole & is_found(level_alone, c, after))
 }
 
 // Marks both sums and the search for level and sharpness; answers for the level alone.
-fn replay_all(of_key: bool, rec: Picture, src: Picture, after: Scratch, t: Task, l: Lists) -> bool {
-    let r = read_recorded();
-    let c = read_choice();
-    replay_sums(rec, src, t, r);
+fn replay_all(
+    rt: &(impl Input + Print),
+    of_key: bool,
+    rec: Picture,
+    src: Picture,
+    after: Scratch,
+    t: Task,
+    l: Lists,
+) -> io::Result<bool> {
+    let r = read_recorded(rt)?;
+    let c = read_choice(rt)?;
+    replay_sums(rt, rec, src, t, r)?;
     if of_key {
-        replay_key(rec, src, after, t, l, c)
+        replay_key(rt, rec, src, after, t, l, c)
     } else {
-        replay_inter(rec, src, after, t, l, c)
+        replay_inter(rt, rec, src, after, t, l, c)
     }
 }
 
 // Task, lists, reconstruction, source, scratch after the search, sum and choice.
-pub fn replay_search(of_key: bool) -> bool {
-    let t = read_task();
-    let l = read_lists();
-    let rec = read_picture();
-    let src = read_picture();
-    let after = read_scratch();
-    replay_all(of_key, rec, src, after, t, l)
+pub fn replay_search(rt: &(impl Input + Print), of_key: bool) -> io::Result<bool> {
+    let t = read_task(rt)?;
+    let l = read_lists(rt)?;
+    let rec = read_picture(rt)?;
+    let src = read_picture(rt)?;
+    let after = read_scratch(rt)?;
+    replay_all(rt, of_key, rec, src, after, t, l)
 }
 
 // The same without planes: nothing may change.
-pub fn replay_idle_search(of_key: bool) -> bool {
-    let t = read_task();
-    let l = read_lists();
-    replay_all(of_key, stripes(), stripes(), striped_scratch(), t, l)
+pub fn replay_idle_search(rt: &(impl Input + Print), of_key: bool) -> io::Result<bool> {
+    let t = read_task(rt)?;
+    let l = read_lists(rt)?;
+    replay_all(rt, of_key, stripes(), stripes(), striped_scratch(), t, l)
 }

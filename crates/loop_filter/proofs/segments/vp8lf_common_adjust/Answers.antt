@@ -11,11 +11,10 @@ use Rattle.loop_filter.proofs.segments.vp8lf_common_adjust.Goals as goal
 
 pub returns-in-AdjustedBy-clause-returned : goal.returns-in-AdjustedBy-clause-returned
 unfolding number_of adjust_outcome out_of
-returns-in-AdjustedBy-clause-returned c =     let h = c.a-1.given in
+returns-in-AdjustedBy-clause-returned c =
     let k = c.common_adjust in
-    let out = c.args.adjustment in
-    let e = sym (ap adjust_outcome h.1) ∙ k.ensures.result_value in
-    returned e (record { number = refl; out = (R.held {w = w32} {z = h.0.0} (record { sfits = c.known_told-1.given.0.1 })).val })
+    let e = sym (ap adjust_outcome c.in-AdjustedBy.is) ∙ k.ensures.result_value in
+    returned e (record { number = refl; out = (R.held {w = w32} {z = c.in-AdjustedBy.a} (record { sfits = c.in-AdjustedBy.known_told-1-own.given.0.1 })).val })
 
 pub returns-in-NoWindowToAdjust-clause-returned : goal.returns-in-NoWindowToAdjust-clause-returned
 unfolding number_of adjust_outcome out_of

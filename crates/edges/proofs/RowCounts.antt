@@ -9,7 +9,7 @@ use lib.Dec.{leb}
 use lib.ListN.{get_or}
 use lib.IntN.{ℤ}
 use Rattle.kernels.specs.Kernels.{edge_value, simple_yes, filter_yes, segment_yes}
-use Rattle.kernels.specs.Segment.{Kernel, simple_segment, subblock_filter, mb_filter, half, taps, gather, passes, passes_at, mark}
+use Rattle.kernels.specs.Segment.{Kernel, simple_segment, half, taps, gather, passes, passes_at, mark}
 use Rattle.kernels.proofs.Apart.{edge-signed}
 use Rattle.planes.specs.Edges.{horizontal}
 use Rattle.edges.specs.EdgeFrom.{tap_from, smoothed_from}

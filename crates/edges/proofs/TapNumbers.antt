@@ -1,13 +1,12 @@
 -- Numbers of the runs: taps of 16 bits in -128..127, and what the faster arithmetic rests on.
 use mathlib.Core.Path.{◌≡◌, refl, sym, ap, subst, ◌∙◌}
 use mathlib.Core.Bool.{Bool, true, false, cond, ◌&&◌, ◌||◌}
-use mathlib.Core.Logic.{inr}
 use Prim.Native.Nat.{ℕ, suc, ◌+◌, ◌*◌, ◌/◌, ◌≤◌, ◌<◌, max, suc-le-suc}
 use native.Mathlib.Nat.{zero-add, le-max_left, le-max_right, max-le, max-eq_left, max-eq_right, le_of_lt, le_of_suc-le-suc, not-suc-le-zero, lt_of_lt_of_le}
 use native.Mathlib.Omega.{arith}
-use lib.Dec.{T, leb, ltb, leb→le, le→leb, lit<}
-use lib.IntN.{ℤ, pos, negsuc, ◌+ℤ◌, ◌-ℤ◌, ◌*ℤ◌, nat_abs, +ℤ-neg_ℤ_cancel, -ℤ-+ℤ_cancel}
-use lib.Signed.{mag, lt_z, shr_z, nat_abs-le, pos-nat_abs}
+use lib.Dec.{T, leb, ltb, leb→le, le→leb}
+use lib.IntN.{ℤ, pos, negsuc, ◌+ℤ◌, ◌-ℤ◌, nat_abs, +ℤ-neg_ℤ_cancel, -ℤ-+ℤ_cancel}
+use lib.Signed.{mag, lt_z, nat_abs-le, pos-nat_abs}
 use borrow.Author.Tests.{ltb-true, ltb-false, le-ltb, lt-ltb}
 use mir.Syntax.{w16}
 use mir.Val.{to_z, of_z}

@@ -4,7 +4,7 @@ use mathlib.Core.Path.{fun_ext}
 use native.Mathlib.Nat.{suc_inj}
 use lib.Seq.{sets, sets-eq, take-set-le, take-set-lt, drop-set-add}
 use borrow.Rule.Slice.PartMut.{mid_of, put_mid, put_same, mid_len}
-use Rattle.arithmetic.specs.Outcome.{Outcome, gives, refuses}
+use Rattle.arithmetic.specs.Outcome.{gives, refuses}
 use Rattle.kernels.specs.Segment.{Kernel, taps, smooth, gather, scatter, segment, passes_at, fits_at, windowed, window_answer}
 use Rattle.kernels.proofs.KernelLaws.{half-least, keeps}
 use Rattle.kernels.proofs.SegmentLaws.{stored, segment-is, stored_same, passes_same, length-stored}

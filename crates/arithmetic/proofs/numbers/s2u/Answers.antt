@@ -1,4 +1,3 @@
-use borrow.Author.Rules.{rules}
 use mathlib.Core.Path.{ap}
 use lib.IntN.{nat_abs}
 use mir.Syntax.{w8, w16, w32}

@@ -1,4 +1,3 @@
-use borrow.Author.Rules.{rules}
 use lib.IntN.{pos, ◌-ℤ◌}
 use mir.Syntax.{w8, w16}
 use mir.Val.{of_z, to_z}

@@ -1,5 +1,4 @@
 use Rattle.edges.proofs.RowStores.{eight-rows}
-use borrow.Author.Rules.{rules}
 use Rattle.edges.proofs.horizontal.gather_rows8.Goals as goal
 
 pub returns : goal.returns

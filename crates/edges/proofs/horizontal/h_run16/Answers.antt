@@ -3,7 +3,6 @@ use Prim.Native.Nat.{ℕ, ◌<◌}
 use lib.ListN.{get_or}
 use Rattle.edges.proofs.RowRuns.{taps-signed, mb-signed, sub-signed, mb-either, sub-either}
 use Rattle.edges.proofs.RowCounts.{eight-counted}
-use borrow.Author.Rules.{rules}
 use Rattle.edges.proofs.horizontal.h_run16.Goals as goal
 
 pub mb_run16-rows-requires : goal.mb_run16-rows-requires

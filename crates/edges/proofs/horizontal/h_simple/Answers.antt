@@ -8,7 +8,6 @@ use Rattle.edges.proofs.RowStores.{four-rows}
 use Rattle.edges.proofs.RowRuns.{rows-signed, row-signed, simple-edge}
 use Rattle.edges.proofs.RowCounts.{four-counted}
 use Rattle.edges.specs.Private.Runs.{rows_at, SignedRows}
-use borrow.Author.Rules.{rules}
 use Rattle.edges.proofs.horizontal.h_simple.Goals as goal
 
 pub simple_run-rows-requires : goal.simple_run-rows-requires

@@ -1,7 +1,6 @@
 use native.Mathlib.Omega.{arith}
 use Rattle.edges.specs.Private.Runs.{SignedInner}
 use Rattle.edges.proofs.RowStores.{four-stored}
-use borrow.Author.Rules.{rules}
 use Rattle.edges.proofs.horizontal.scatter_four8.Goals as goal
 
 pub scatter8-requires-clause-signed_row : goal.scatter8-requires-clause-signed_row

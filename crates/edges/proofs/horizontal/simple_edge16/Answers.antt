@@ -1,11 +1,7 @@
-use borrow.Author.Rules.{rules}
 use mathlib.Core.Path.{sym, ◌∙◌}
-use Prim.Native.Nat.{◌+◌, ◌*◌}
-use lib.ListN.{length}
 use Rattle.kernels.specs.Segment.{half, taps}
 use Rattle.kernels.proofs.Windows.{taken, left}
 use Rattle.edges.specs.EdgeFrom.{edge_fits, edge_within, smoothed_within}
-use Rattle.edges.proofs.EdgeRoom.{both-pass}
 use Rattle.edges.proofs.horizontal.simple_edge16.Goals as goal
 
 pub returns-then-has_rows-clause-plane_after : goal.returns-then-has_rows-clause-plane_after

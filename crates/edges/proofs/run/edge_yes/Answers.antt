@@ -1,12 +1,11 @@
 use mathlib.Core.Path.{◌∙◌}
-use lib.IntN.{ℤ, pos, ◌*ℤ◌}
+use lib.IntN.{pos, ◌*ℤ◌}
 use lib.Signed.{le_z}
 use mir.Syntax.{w16}
 use mir.Val.{to_z, of_z}
 use Rattle.arithmetic.proofs.Ranges as R
 use Rattle.edges.proofs.TapNumbers as N
 use Rattle.kernels.specs.Kernels.{apart, edge_value}
-use borrow.Author.Rules.{rules}
 use Rattle.edges.proofs.run.edge_yes.Goals as goal
 
 pub overflow_mul-result : goal.overflow_mul-result

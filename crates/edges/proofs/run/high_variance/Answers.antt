@@ -6,7 +6,6 @@ use Rattle.arithmetic.proofs.Ranges as R
 use Rattle.edges.proofs.TapNumbers as N
 use Rattle.kernels.specs.Kernels.{apart, hev}
 use Prim.Native.Nat.{max}
-use borrow.Author.Rules.{rules}
 use Rattle.edges.proofs.run.high_variance.Goals as goal
 
 pub returns : goal.returns

@@ -4,7 +4,6 @@ use Rattle.arithmetic.proofs.Ranges as R
 use Rattle.edges.proofs.TapNumbers as N
 use Rattle.arithmetic.specs.Numbers.{at_most123}
 use Rattle.kernels.proofs.Cuts.{loss-is}
-use borrow.Author.Rules.{rules}
 use Rattle.edges.proofs.run.loss.Goals as goal
 
 pub overflow_add-result : goal.overflow_add-result

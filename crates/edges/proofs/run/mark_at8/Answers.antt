@@ -1,8 +1,5 @@
-use borrow.Author.Rules.{rules}
-use mathlib.Core.Path.{ap, ◌∙◌}
-use Rattle.kernels.specs.Segment.{mark}
 use Rattle.edges.specs.Private.Runs.{SignedEight}
-use Rattle.edges.proofs.RunTurns.{eight-known, eight-read, eight-yes}
+use Rattle.edges.proofs.RunTurns.{eight-known, eight-read}
 use Rattle.edges.proofs.run.mark_at8.Goals as goal
 
 pub normal_yes-requires : goal.normal_yes-requires

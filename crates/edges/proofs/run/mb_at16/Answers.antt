@@ -1,7 +1,5 @@
-use borrow.Author.Rules.{rules}
-use Rattle.kernels.specs.Segment.{mb_filter}
 use Rattle.edges.specs.Private.Runs.{SignedEight}
-use Rattle.edges.proofs.RunTurns.{eight-known, eight-read, eight-turn}
+use Rattle.edges.proofs.RunTurns.{eight-known, eight-read}
 use Rattle.edges.proofs.run.mb_at16.Goals as goal
 
 pub mb_position-requires : goal.mb_position-requires

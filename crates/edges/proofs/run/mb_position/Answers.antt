@@ -9,7 +9,6 @@ use Rattle.kernels.specs.Kernels.{filter_yes, hev, filter_value}
 use Rattle.edges.specs.Private.Runs.{widened_taps}
 use lib.Dec.{lit<}
 use Rattle.edges.proofs.TapPositions.{mb-taps}
-use borrow.Author.Rules.{rules}
 use Rattle.edges.proofs.run.mb_position.Goals as goal
 
 pub widened-requires-clause-w_bound : goal.widened-requires-clause-w_bound

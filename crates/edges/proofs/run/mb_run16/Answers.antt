@@ -1,17 +1,17 @@
-use mathlib.Core.Path.{◌≡◌, ◌∙◌}
+use mathlib.Core.Path.{◌≡◌}
 use mathlib.Core.List.{[]}
-use Prim.Native.Nat.{ℕ, ◌-◌, ◌≤◌, ◌<◌}
+use Prim.Native.Nat.{ℕ, ◌<◌}
 use native.Mathlib.Omega.{arith}
 use lib.ListN.{length, get_or}
 use Rattle.kernels.specs.Segment.{mb_filter}
 use Rattle.kernels.proofs.SegmentLaws.{mark-most}
-use Rattle.edges.specs.Private.Runs.{yes_of, marks_of}
+use Rattle.edges.specs.Private.Runs.{yes_of}
 use Rattle.edges.proofs.ArrayRows.{rows-many, row-long}
-use Rattle.edges.proofs.RunTurns.{run_to, run_none, run-turn, run_end, marks-none, marks-turn, marks-most}
+use Rattle.edges.proofs.RunTurns.{run_none, run-turn, run_end, marks-none, marks-turn, marks-most}
 use Rattle.edges.proofs.run.mb_run16.Goals as goal
 
 pub loop-n-init : goal.loop-n-init
-loop-n-init c =     let x = c.args in
+loop-n-init c = let x = c.args in
     (omega arith, run_none _ _ (rows-many 8 16 x.taps _ c.well_formed.0), marks-none (yes_of x.edge.interior x.edge.limit x.taps))
 
 pub overflow_add-marks : goal.overflow_add-marks

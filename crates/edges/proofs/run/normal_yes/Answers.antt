@@ -8,7 +8,6 @@ use Rattle.edges.proofs.TapNumbers as N
 use Prim.Native.Nat.{max}
 use Rattle.kernels.specs.Kernels.{apart, edge_value, filter_yes}
 use lib.Dec.{leb}
-use borrow.Author.Rules.{rules}
 use Rattle.edges.proofs.run.normal_yes.Goals as goal
 
 pub returns : goal.returns

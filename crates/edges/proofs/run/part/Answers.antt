@@ -5,7 +5,6 @@ use mir.Syntax.{w16}
 use Rattle.arithmetic.proofs.Ranges as R
 use Rattle.kernels.proofs.Cuts.{part-is}
 use Rattle.edges.proofs.TapNumbers as N
-use borrow.Author.Rules.{rules}
 use Rattle.edges.proofs.run.part.Goals as goal
 
 pub returns : goal.returns

@@ -1,5 +1,4 @@
 use Rattle.edges.proofs.TapNumbers as N
-use borrow.Author.Rules.{rules}
 use Rattle.edges.proofs.run.roughness.Goals as goal
 
 pub returns : goal.returns

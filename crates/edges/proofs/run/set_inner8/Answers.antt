@@ -1,4 +1,3 @@
-use borrow.Author.Rules.{rules}
 use Rattle.edges.proofs.RunTurns.{inner-stored}
 use Rattle.edges.proofs.run.set_inner8.Goals as goal
 

@@ -8,7 +8,6 @@ use Rattle.edges.proofs.TapNumbers as N
 use lib.Dec.{leb, lit<}
 use Rattle.kernels.specs.Kernels.{edge_value, filter_value, gain_of, loss_of}
 use Rattle.edges.proofs.TapPositions.{simple-taps}
-use borrow.Author.Rules.{rules}
 use Rattle.edges.proofs.run.simple_position.Goals as goal
 
 pub gain-requires : goal.gain-requires

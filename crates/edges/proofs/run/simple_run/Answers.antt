@@ -1,16 +1,14 @@
 use mathlib.Core.Path.{◌≡◌, ap, ◌∙◌}
-use mathlib.Core.List.{[], ◌∷◌}
-use borrow.Author.Rules.{rules}
-use Prim.Native.Nat.{ℕ, ◌-◌, ◌≤◌, ◌<◌}
+use mathlib.Core.List.{[]}
+use Prim.Native.Nat.{ℕ, ◌<◌}
 use native.Mathlib.Omega.{arith}
 use lib.ListN.{length, get_or}
 use lib.IntN.{pos}
-use Rattle.arithmetic.specs.Tables.{fill}
 use Rattle.edges.proofs.TapNumbers as N
 use Rattle.kernels.specs.Segment.{simple_segment, mark}
 use Rattle.kernels.proofs.SegmentLaws.{mark-most}
 use Rattle.edges.specs.declared.run.EdgeTaps.{EdgeTaps}
-use Rattle.edges.specs.Private.Runs.{four_at, simple_of, marks_of, SignedFour}
+use Rattle.edges.specs.Private.Runs.{simple_of, SignedFour}
 use Rattle.edges.proofs.ArrayRows.{row-long}
 use Rattle.edges.proofs.TapPositions.{simple-in}
 use Rattle.edges.proofs.RunTurns.{four-in, four-read, four-turn, four-yes, four-end, marks-none, marks-turn, marks-most}
@@ -58,5 +56,5 @@ returns-clause-value c =
     let long : (k : ℕ) → k < 4 → length (get_or c.args.taps k []) ≡ 16 = row-long 4 16 c.args.taps _ c.well_formed.0 in
     let e : c.loop-n.n ≡ 16 = omega arith in
     four-end (simple_segment c.args.edge_limit) 16 c.args.taps _ _
-          (fill_end c.loop-n.n 16 _ (get_or c.args.taps 1 []) c.loop-n.o1 c.loop-n.invariant.1 (omega arith) (long 1 (omega arith)))
-          (fill_end c.loop-n.n 16 _ (get_or c.args.taps 2 []) c.loop-n.o2 c.loop-n.invariant.2 (omega arith) (long 2 (omega arith)))
+    (fill_end c.loop-n.n 16 _ (get_or c.args.taps 1 []) c.loop-n.o1 c.loop-n.invariant.1 (omega arith) (long 1 (omega arith)))
+    (fill_end c.loop-n.n 16 _ (get_or c.args.taps 2 []) c.loop-n.o2 c.loop-n.invariant.2 (omega arith) (long 2 (omega arith)))

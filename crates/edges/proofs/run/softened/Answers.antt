@@ -1,6 +1,6 @@
 use mathlib.Core.Path.{ap, ◌∙◌}
 use mathlib.Core.Bool.{cond}
-use lib.IntN.{ℤ, pos, ◌+ℤ◌}
+use lib.IntN.{pos, ◌+ℤ◌}
 use mir.Syntax.{w16}
 use mir.Val.{of_z}
 use Rattle.arithmetic.proofs.Ranges as R
@@ -9,7 +9,6 @@ use Rattle.arithmetic.specs.Numbers.{shr}
 use Rattle.kernels.specs.Kernels.{gain_of, loss_of}
 use Rattle.edges.specs.Private.Runs.{softened_taps}
 use lib.Dec.{lit<}
-use borrow.Author.Rules.{rules}
 use Rattle.edges.proofs.run.softened.Goals as goal
 
 pub overflow_add-down : goal.overflow_add-down

@@ -1,7 +1,5 @@
-use borrow.Author.Rules.{rules}
-use Rattle.kernels.specs.Segment.{subblock_filter}
 use Rattle.edges.specs.Private.Runs.{SignedEight}
-use Rattle.edges.proofs.RunTurns.{eight-known, eight-read, eight-turn}
+use Rattle.edges.proofs.RunTurns.{eight-known, eight-read}
 use Rattle.edges.proofs.run.sub_at16.Goals as goal
 
 pub sub_position-requires : goal.sub_position-requires

@@ -9,7 +9,6 @@ use Rattle.kernels.specs.Kernels.{filter_yes, hev, filter_value}
 use Rattle.edges.specs.Private.Runs.{softened_taps}
 use lib.Dec.{lit<}
 use Rattle.edges.proofs.TapPositions.{sub-taps}
-use borrow.Author.Rules.{rules}
 use Rattle.edges.proofs.run.sub_position.Goals as goal
 
 pub softened-requires-clause-a_bound : goal.softened-requires-clause-a_bound

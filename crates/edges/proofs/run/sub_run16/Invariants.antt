@@ -1,13 +1,8 @@
-use mathlib.Core.Path.{◌≡◌, ◌∙◌}
-use mathlib.Core.List.{[]}
-use Prim.Native.Nat.{ℕ, ◌-◌, ◌≤◌, ◌<◌}
-use native.Mathlib.Omega.{arith}
-use lib.ListN.{length, get_or}
+use mathlib.Core.Path.{◌≡◌}
+use Prim.Native.Nat.{◌≤◌}
 use Rattle.kernels.specs.Segment.{subblock_filter}
-use Rattle.kernels.proofs.SegmentLaws.{mark-most}
 use Rattle.edges.specs.Private.Runs.{yes_of, marks_of}
-use Rattle.edges.proofs.ArrayRows.{rows-many, row-long}
-use Rattle.edges.proofs.RunTurns.{run_to, run_none, run-turn, run_end, marks-none, marks-turn, marks-most}
+use Rattle.edges.proofs.RunTurns.{run_to}
 use Rattle.edges.proofs.run.sub_run16.Given as goal
 
 abbrev pub invariant-loop-n : goal.invariant-loop-n

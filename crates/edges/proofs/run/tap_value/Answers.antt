@@ -1,12 +1,10 @@
 use mathlib.Core.Path.{◌∙◌}
 use mathlib.Core.Bool.{cond}
 use lib.IntN.{pos, ◌+ℤ◌, ◌*ℤ◌}
-use mir.Syntax.{w16}
 use Rattle.arithmetic.proofs.Ranges as R
 use Rattle.edges.proofs.TapNumbers as N
 use Rattle.arithmetic.specs.Numbers.{clamp}
 use Rattle.kernels.specs.Kernels.{filter_value}
-use borrow.Author.Rules.{rules}
 use Rattle.edges.proofs.run.tap_value.Goals as goal
 
 pub returns : goal.returns

@@ -8,8 +8,6 @@ use Rattle.edges.proofs.TapNumbers as N
 use Rattle.kernels.specs.Kernels.{part, gain_of, loss_of}
 use Rattle.edges.specs.Private.Runs.{widened_taps}
 use lib.Dec.{lit<}
-use native.Mathlib.Omega.{arith}
-use borrow.Author.Rules.{rules}
 use Rattle.edges.proofs.run.widened.Goals as goal
 
 pub overflow_add-up : goal.overflow_add-up

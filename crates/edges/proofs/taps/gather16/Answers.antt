@@ -1,9 +1,8 @@
-use mathlib.Core.Path.{◌≡◌, refl}
-use Prim.Native.Nat.{◌+◌, ◌-◌, ◌≤◌}
+use mathlib.Core.Path.{refl}
+use Prim.Native.Nat.{◌+◌}
 use native.Mathlib.Omega.{arith}
-use lib.ListN.{length, get_or}
+use lib.ListN.{get_or}
 use mir.Syntax.{w16}
-use Rattle.arithmetic.specs.Tables.{fill}
 use Rattle.arithmetic.proofs.Ranges as R
 use Rattle.arithmetic.specs.Numbers.{u2s}
 use Rattle.edges.specs.Private.Runs.{row_at}

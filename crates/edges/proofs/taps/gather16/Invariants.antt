@@ -1,13 +1,8 @@
-use mathlib.Core.Path.{◌≡◌, refl}
-use Prim.Native.Nat.{◌+◌, ◌-◌, ◌≤◌}
-use native.Mathlib.Omega.{arith}
+use mathlib.Core.Path.{◌≡◌}
+use Prim.Native.Nat.{◌+◌, ◌≤◌}
 use lib.ListN.{length, get_or}
-use mir.Syntax.{w16}
 use Rattle.arithmetic.specs.Tables.{fill}
-use Rattle.arithmetic.proofs.Ranges as R
 use Rattle.arithmetic.specs.Numbers.{u2s}
-use Rattle.edges.specs.Private.Runs.{row_at}
-use Rattle.arithmetic.proofs.Tables.{fill_none, fill-turn, fill_end}
 use Rattle.edges.proofs.taps.gather16.Given as goal
 
 abbrev pub invariant-loop-n : goal.invariant-loop-n

@@ -1,6 +1,6 @@
 use mathlib.Core.Path.{sym, ap, ◌∙◌}
 use lib.IntN.{nat_abs}
-use mir.Syntax.{w8, w16}
+use mir.Syntax.{w16}
 use Rattle.arithmetic.proofs.Ranges as R
 use Rattle.edges.proofs.TapNumbers as N
 use Rattle.edges.proofs.taps.s2u16.Goals as goal

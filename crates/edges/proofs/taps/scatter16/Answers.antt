@@ -1,11 +1,10 @@
-use mathlib.Core.Path.{◌≡◌, refl, ap, ◌∙◌}
-use Prim.Native.Nat.{◌-◌, ◌≤◌}
+use mathlib.Core.Path.{refl, ap, ◌∙◌}
 use native.Mathlib.Omega.{arith}
-use lib.ListN.{length, get_or, length-set}
+use lib.ListN.{get_or, length-set}
 use lib.IntN.{pos}
 use Rattle.edges.proofs.TapNumbers as N
 use Rattle.arithmetic.specs.Numbers.{s2u}
-use Rattle.edges.specs.Private.Runs.{store_row, SignedRow}
+use Rattle.edges.specs.Private.Runs.{SignedRow}
 use Rattle.edges.proofs.RowStores.{store-none, store-turn}
 use Rattle.edges.proofs.taps.scatter16.Goals as goal
 

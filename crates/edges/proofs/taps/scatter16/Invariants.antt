@@ -1,12 +1,7 @@
-use mathlib.Core.Path.{◌≡◌, refl, ap, ◌∙◌}
-use Prim.Native.Nat.{◌-◌, ◌≤◌}
-use native.Mathlib.Omega.{arith}
-use lib.ListN.{length, get_or, length-set}
-use lib.IntN.{pos}
-use Rattle.edges.proofs.TapNumbers as N
-use Rattle.arithmetic.specs.Numbers.{s2u}
-use Rattle.edges.specs.Private.Runs.{store_row, SignedRow}
-use Rattle.edges.proofs.RowStores.{store-none, store-turn}
+use mathlib.Core.Path.{◌≡◌}
+use Prim.Native.Nat.{◌≤◌}
+use lib.ListN.{length}
+use Rattle.edges.specs.Private.Runs.{store_row}
 use Rattle.edges.proofs.taps.scatter16.Given as goal
 
 abbrev pub invariant-loop-n : goal.invariant-loop-n

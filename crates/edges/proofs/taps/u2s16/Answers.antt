@@ -1,7 +1,6 @@
 use mir.Syntax.{w16}
 use Rattle.arithmetic.proofs.Ranges as R
 use Rattle.arithmetic.specs.Numbers.{u2s}
-use borrow.Author.Rules.{rules}
 use Rattle.edges.proofs.taps.u2s16.Goals as goal
 
 pub returns : goal.returns

@@ -1,4 +1,3 @@
-use borrow.Author.Rules.{rules}
 use mathlib.Core.Path.{sym, ap}
 use Rattle.kernels.specs.Answers.{kernel_outcome}
 use Rattle.kernels.specs.declared.answers.KernelAnswer.{KernelAnswer}

@@ -1,8 +1,4 @@
-use borrow.Author.Rules.{rules}
 use mathlib.Core.Path.{sym, ◌∙◌}
-use Prim.Native.Nat.{◌+◌, ◌*◌}
-use lib.ListN.{length}
-use borrow.Author.Tests.{leb-true}
 use Rattle.kernels.specs.Segment.{half, taps}
 use Rattle.kernels.proofs.Windows.{taken, left}
 use Rattle.edges.specs.EdgeFrom.{edge_fits, edge_within, smoothed_within}

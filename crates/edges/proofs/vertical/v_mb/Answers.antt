@@ -1,16 +1,14 @@
-use mathlib.Core.Path.{◌≡◌, refl, sym, ap, ◌∙◌}
+use mathlib.Core.Path.{refl, ap, ◌∙◌}
 use Prim.Native.Nat.{◌+◌, ◌*◌, ◌-◌, ◌≤◌, ◌<◌}
 use native.Mathlib.Omega.{arith}
-use borrow.Author.Rules.{rules}
 use lib.ListN.{length}
 use Rattle.kernels.specs.Segment.{mb_filter, half, taps, mark}
 use Rattle.planes.specs.Edges.{vertical}
-use Rattle.edges.specs.EdgeFrom.{edge_from, smoothed_from}
 use Rattle.edges.proofs.VerticalRows.{row_within, from-none, row_next, length_from, counted_none, counted_next}
 use Rattle.edges.proofs.vertical.v_mb.Goals as goal
 
 pub loop-n-init : goal.loop-n-init
-loop-n-init c =     let x = c.args in
+loop-n-init c = let x = c.args in
     let k = mb_filter x.limits.hev_threshold x.limits.interior_limit x.limits.mbedge_limit in
     (omega arith, from-none vertical _ _ _ _, refl, omega (arith, c.requires.missed_value, counted_none vertical k x.stride x.at x.plane.now))
 

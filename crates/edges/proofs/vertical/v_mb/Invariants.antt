@@ -1,12 +1,9 @@
-use mathlib.Core.Path.{◌≡◌, refl, sym, ap, ◌∙◌}
-use Prim.Native.Nat.{◌+◌, ◌*◌, ◌-◌, ◌≤◌, ◌<◌}
-use native.Mathlib.Omega.{arith}
-use borrow.Author.Rules.{rules}
+use mathlib.Core.Path.{◌≡◌}
+use Prim.Native.Nat.{◌+◌, ◌≤◌}
 use lib.ListN.{length}
-use Rattle.kernels.specs.Segment.{mb_filter, half, taps, mark}
+use Rattle.kernels.specs.Segment.{mb_filter}
 use Rattle.planes.specs.Edges.{vertical}
 use Rattle.edges.specs.EdgeFrom.{edge_from, smoothed_from}
-use Rattle.edges.proofs.VerticalRows.{row_within, from-none, row_next, length_from, counted_none, counted_next}
 use Rattle.edges.proofs.vertical.v_mb.Given as goal
 
 abbrev pub invariant-loop-n : goal.invariant-loop-n

@@ -1,9 +1,5 @@
-use borrow.Author.Rules.{rules}
-use mathlib.Core.Path.{refl, sym, ap, ◌∙◌}
-use Prim.Native.Nat.{ℕ, ◌+◌}
-use native.Mathlib.Omega.{arith}
-use lib.ListN.{length}
-use borrow.Author.Tests.{leb-true}
+use mathlib.Core.Path.{sym, ap, ◌∙◌}
+use Prim.Native.Nat.{◌+◌}
 use Rattle.arithmetic.specs.Outcome.{gives}
 use Rattle.kernels.specs.Answers.{kernel_outcome}
 use Rattle.kernels.specs.Segment.{mb_filter, half, taps, passes_at, fits_at, windowed, window_answer}
@@ -29,10 +25,10 @@ returns-then-has_window-clause-seg_after c =
 
 pub returns-else-has_window-clause-result_value : goal.returns-else-has_window-clause-result_value
 unfolding kernel_outcome half taps fits_at windowed window_answer
-returns-else-has_window-clause-result_value c =     let h = c.has_window.ensures in
+returns-else-has_window-clause-result_value c = let h = c.has_window.ensures in
     sym (left _ _ h c.if-has_window.false)
 
 pub returns-else-has_window-clause-seg_after : goal.returns-else-has_window-clause-seg_after
 unfolding kernel_outcome half taps fits_at windowed window_answer
-returns-else-has_window-clause-seg_after c =     let h = c.has_window.ensures in
+returns-else-has_window-clause-seg_after c = let h = c.has_window.ensures in
     sym (left _ _ h c.if-has_window.false)

@@ -1,5 +1,4 @@
 use Rattle.judge.specs.Batches.{accepted_batch}
-use borrow.Author.Rules.{rules}
 use Rattle.judge.proofs.batch.accepted.Goals as goal
 
 pub returns : goal.returns

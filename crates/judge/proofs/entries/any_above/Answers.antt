@@ -1,10 +1,6 @@
-use mathlib.Core.Path.{◌≡◌}
-use Prim.Native.Nat.{◌-◌, ◌≤◌}
 use native.Mathlib.Omega.{arith}
 use lib.Dec.{ltb}
-use lib.ListN.{length, take}
-use Rattle.calls.specs.Entries.{any_of}
-use Rattle.calls.proofs.EntryLaws.{any_none, any-more, any-all}
+use Rattle.calls.proofs.EntryLaws.{any_none, any-more}
 use Rattle.judge.proofs.entries.any_above.Goals as goal
 
 pub loop-i-init : goal.loop-i-init

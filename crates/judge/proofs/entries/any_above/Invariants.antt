@@ -1,10 +1,8 @@
 use mathlib.Core.Path.{◌≡◌}
 use Prim.Native.Nat.{◌-◌, ◌≤◌}
-use native.Mathlib.Omega.{arith}
 use lib.Dec.{ltb}
 use lib.ListN.{length, take}
 use Rattle.calls.specs.Entries.{any_of}
-use Rattle.calls.proofs.EntryLaws.{any_none, any-more, any-all}
 use Rattle.judge.proofs.entries.any_above.Given as goal
 
 abbrev pub invariant-loop-i : goal.invariant-loop-i

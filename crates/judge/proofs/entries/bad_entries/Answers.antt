@@ -1,5 +1,4 @@
 use Rattle.calls.proofs.EntryLaws.{any-bad}
-use borrow.Author.Rules.{rules}
 use Rattle.judge.proofs.entries.bad_entries.Goals as goal
 
 pub returns : goal.returns

@@ -1,4 +1,4 @@
-use Rattle.std.proofs.Common.{ℕ, ◌<◌, ◌∙◌, subst, rules}
+use Rattle.std.proofs.Common.{ℕ, ◌<◌, ◌∙◌, subst}
 use Rattle.kernels.proofs.Apart.{near-is}
 use Rattle.kernels.proofs.near.in_reach.Goals as goal
 

@@ -1,4 +1,4 @@
-use Rattle.std.proofs.Common.{true, sym, ◌∙◌, rules}
+use Rattle.std.proofs.Common.{true, sym, ◌∙◌}
 use Rattle.kernels.proofs.Decided.{inner-far}
 use Rattle.kernels.proofs.passed.mb_beyond.Goals as goal
 

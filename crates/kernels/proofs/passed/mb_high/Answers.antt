@@ -1,6 +1,5 @@
-use Rattle.std.proofs.Common.{true, rules}
-use Rattle.kernels.proofs.Cuts.{was-stored, was-kept}
-use Rattle.kernels.proofs.Filtered.{of-list}
+use Rattle.std.proofs.Common.{true}
+use Rattle.kernels.proofs.Cuts.{was-stored}
 use Rattle.kernels.proofs.Decided.{high-two}
 use Rattle.kernels.proofs.passed.mb_high.Goals as goal
 

@@ -1,6 +1,4 @@
-use Rattle.std.proofs.Common.{rules}
-use Rattle.kernels.proofs.Cuts.{was-stored, was-kept}
-use Rattle.kernels.proofs.Filtered.{of-list}
+use Rattle.kernels.proofs.Cuts.{was-stored}
 use Rattle.kernels.proofs.Decided.{low-six}
 use Rattle.kernels.proofs.passed.mb_low.Goals as goal
 

@@ -1,4 +1,4 @@
-use Rattle.std.proofs.Common.{false, sym, ◌∙◌, rules}
+use Rattle.std.proofs.Common.{false, sym, ◌∙◌}
 use Rattle.kernels.proofs.Decided.{outer-far}
 use Rattle.kernels.proofs.passed.subblock_filter_passed.Goals as goal
 

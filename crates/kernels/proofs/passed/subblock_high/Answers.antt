@@ -1,6 +1,5 @@
-use Rattle.std.proofs.Common.{false, rules}
-use Rattle.kernels.proofs.Cuts.{was-stored, was-kept}
-use Rattle.kernels.proofs.Filtered.{of-list}
+use Rattle.std.proofs.Common.{false}
+use Rattle.kernels.proofs.Cuts.{was-stored}
 use Rattle.kernels.proofs.Decided.{high-two}
 use Rattle.kernels.proofs.passed.subblock_high.Goals as goal
 

@@ -1,5 +1,4 @@
-use Rattle.std.proofs.Common.{sym, ◌∙◌, w64, rules}
-use Rattle.arithmetic.proofs.Ranges as R
+use Rattle.std.proofs.Common.{sym, ◌∙◌}
 use Rattle.kernels.proofs.Windows.{common-window}
 use Rattle.kernels.proofs.segments.common_adjust_at.Goals as goal
 

@@ -1,4 +1,4 @@
-use Rattle.std.proofs.Common.{sym, ◌∙◌, rules}
+use Rattle.std.proofs.Common.{sym, ◌∙◌}
 use Rattle.kernels.proofs.Windows.{taken, left, simple-window}
 use Rattle.kernels.proofs.segments.simple_segment_passed.Goals as goal
 

@@ -1,4 +1,4 @@
-use Rattle.std.proofs.Common.{false, sym, ap, ◌∙◌, rules, leb-true}
+use Rattle.std.proofs.Common.{false, sym, ap, ◌∙◌}
 use Rattle.arithmetic.specs.Outcome.{gives}
 use Rattle.kernels.specs.Answers.{kernel_outcome}
 use Rattle.kernels.specs.Segment.{half, taps, fits_at, windowed, window_answer}
@@ -22,10 +22,10 @@ returns-then-has_window-clause-seg_after c =
 
 pub returns-else-has_window-clause-result_value : goal.returns-else-has_window-clause-result_value
 unfolding kernel_outcome half taps fits_at windowed window_answer
-returns-else-has_window-clause-result_value c =     let h = c.has_window.ensures in
+returns-else-has_window-clause-result_value c = let h = c.has_window.ensures in
     sym (left _ _ h c.if-has_window.false)
 
 pub returns-else-has_window-clause-seg_after : goal.returns-else-has_window-clause-seg_after
 unfolding kernel_outcome half taps fits_at windowed window_answer
-returns-else-has_window-clause-seg_after c =     let h = c.has_window.ensures in
+returns-else-has_window-clause-seg_after c = let h = c.has_window.ensures in
     sym (left _ _ h c.if-has_window.false)

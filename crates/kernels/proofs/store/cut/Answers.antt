@@ -1,7 +1,7 @@
 use Rattle.std.proofs.Common.{◌≡◌, true, false, pos, sym, w64}
 use lib.Signed.{lt_z}
 use Rattle.arithmetic.proofs.Ranges as R
-use Rattle.kernels.proofs.Cuts.{Plain, plain, byte?, byte, cut_low, cut_high}
+use Rattle.kernels.proofs.Cuts.{Plain, plain, byte, cut_low, cut_high}
 use Rattle.kernels.proofs.store.cut.Goals as goal
 
 pub returns-then-v-lt0 : goal.returns-then-v-lt0

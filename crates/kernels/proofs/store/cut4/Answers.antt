@@ -1,5 +1,4 @@
-use Rattle.std.proofs.Common.{◌+◌, set, ap, ◌∙◌, w64, rules}
-use Rattle.kernels.specs.Private.Windows.{cut}
+use Rattle.std.proofs.Common.{◌+◌, set, ◌∙◌, w64}
 use Rattle.arithmetic.proofs.Ranges as R
 use Rattle.kernels.proofs.Cuts.{Plain, told, join, byte?, byte}
 use Rattle.kernels.proofs.store.cut4.Goals as goal

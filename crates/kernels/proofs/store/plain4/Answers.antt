@@ -1,4 +1,4 @@
-use Rattle.std.proofs.Common.{◌+◌, set, ◌∙◌, w64, rules}
+use Rattle.std.proofs.Common.{◌+◌, set, ◌∙◌, w64}
 use Rattle.arithmetic.proofs.Ranges as R
 use Rattle.kernels.proofs.Cuts.{Plain, in-byte, told, join, byte?, byte}
 use Rattle.kernels.proofs.store.plain4.Goals as goal

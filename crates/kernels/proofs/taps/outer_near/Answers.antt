@@ -1,4 +1,4 @@
-use Rattle.std.proofs.Common.{◌&&◌, rules}
+use Rattle.std.proofs.Common.{◌&&◌}
 use Rattle.kernels.specs.Private.Taps.{outer_near}
 use Rattle.kernels.proofs.taps.outer_near.Goals as goal
 

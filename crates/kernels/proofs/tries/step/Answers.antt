@@ -1,4 +1,3 @@
-use Rattle.std.proofs.Common.{rules}
 use Rattle.arithmetic.proofs.Ranges as R
 use Rattle.kernels.specs.Private.Taps.{step_of}
 use Rattle.kernels.proofs.tries.step.Goals as goal

@@ -36,11 +36,10 @@ plain4-requires-clause-b_value c =
     let w : Taps = c.args.w in
     let p0 : w.p0 < 256 = search rules in
     let q0 : w.q0 < 256 = search rules in
-    let value : R.Is w64 (of_z w64 c.step-a.result) (step_of w.p0 w.q0) 1536 = R.got c.step-a.type_inv c.step-a.ensures (step_in w.p0 w.q0 p0 q0) in
-    (
-        ap in_byte (R.add (R.sample p0) (R.shr 8 (R.add value (R.lit w64 3 tt) tt) tt) tt).val ∙ byte-in _ (toward w.p0 w.q0 p0 q0).gained,
-        ap in_byte (R.sub (R.sample q0) (R.shr 8 (R.add value (R.lit w64 4 tt) tt) tt) tt).val ∙ byte-in _ (toward w.p0 w.q0 p0 q0).lost,
-      )
+    let value : R.Is w64 (of_z w64 c.step-a.result) (step_of w.p0 w.q0) 1536 = R.got c.step-a.type_inv c.step-a.ensures (step_in w.p0 w.q0 p0 q0) in (
+      ap in_byte (R.add (R.sample p0) (R.shr 8 (R.add value (R.lit w64 3 tt) tt) tt) tt).val ∙ byte-in _ (toward w.p0 w.q0 p0 q0).gained,
+      ap in_byte (R.sub (R.sample q0) (R.shr 8 (R.add value (R.lit w64 4 tt) tt) tt) tt).val ∙ byte-in _ (toward w.p0 w.q0 p0 q0).lost,
+    )
 
 pub returns : goal.returns
 unfolding plain_four

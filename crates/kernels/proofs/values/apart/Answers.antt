@@ -1,4 +1,4 @@
-use Rattle.std.proofs.Common.{sym, rules}
+use Rattle.std.proofs.Common.{sym}
 use Rattle.kernels.proofs.Apart.{apart_below, apart_above}
 use Rattle.kernels.proofs.values.apart.Goals as goal
 

@@ -1,4 +1,4 @@
-use Rattle.std.proofs.Common.{sym, ◌∙◌, w16, rules}
+use Rattle.std.proofs.Common.{sym, ◌∙◌, w16}
 use Rattle.arithmetic.proofs.Ranges as R
 use Rattle.kernels.proofs.Apart.{difference-signed}
 use Rattle.kernels.proofs.values.difference.Goals as goal

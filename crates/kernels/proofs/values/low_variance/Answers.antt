@@ -1,4 +1,3 @@
-use Rattle.std.proofs.Common.{rules}
 use Rattle.kernels.specs.Private.Windows.{low_variance}
 use Rattle.kernels.proofs.values.low_variance.Goals as goal
 

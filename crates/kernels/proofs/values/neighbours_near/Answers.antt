@@ -1,4 +1,3 @@
-use Rattle.std.proofs.Common.{rules}
 use Rattle.kernels.specs.Private.Windows.{neighbours_near}
 use Rattle.kernels.proofs.values.neighbours_near.Goals as goal
 

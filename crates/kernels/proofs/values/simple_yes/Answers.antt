@@ -1,4 +1,4 @@
-use Rattle.std.proofs.Common.{◌+◌, ◌*◌, ◌/◌, leb, ◌∙◌, rules}
+use Rattle.std.proofs.Common.{◌+◌, ◌*◌, ◌/◌, leb, ◌∙◌}
 use Rattle.kernels.specs.Kernels.{edge_value, simple_yes}
 use Rattle.kernels.proofs.Apart.{twice}
 use Rattle.kernels.proofs.values.simple_yes.Goals as goal

@@ -1,4 +1,4 @@
-use Rattle.std.proofs.Common.{◌+◌, set, ℤ, ap, ◌∙◌, w16, w64, to_z, of_z, rules}
+use Rattle.std.proofs.Common.{◌+◌, set, ℤ, ap, ◌∙◌, w16, w64, to_z, of_z}
 use Rattle.arithmetic.specs.Numbers.{u2s}
 use Rattle.kernels.specs.Kernels.{filter_value, adjustment, adjusted_p0, adjusted_q0}
 use Rattle.kernels.specs.Private.Windows.{adjusted_at}
@@ -29,6 +29,6 @@ returns-clause-seg_after c =
     let h = value.inr in
     let at = c.args.at in
     c.cut2.ensures
-          ∙ (λ i. set (set c.args.seg.now
-          at (raised c.args.p0 (gain-is a h) (R.add (R.sample c.ranges.p0.fits) (R.shr 8 (R.add most (R.lit w64 3 tt) tt) tt) tt) i))
-          (at + 1) (lowered c.args.q0 (loss-is a h) (R.sub (R.sample c.ranges.q0.fits) (R.shr 8 (R.add most (R.lit w64 4 tt) tt) tt) tt) i))
+    ∙ (λ i. set (set c.args.seg.now
+    at (raised c.args.p0 (gain-is a h) (R.add (R.sample c.ranges.p0.fits) (R.shr 8 (R.add most (R.lit w64 3 tt) tt) tt) tt) i))
+    (at + 1) (lowered c.args.q0 (loss-is a h) (R.sub (R.sample c.ranges.q0.fits) (R.shr 8 (R.add most (R.lit w64 4 tt) tt) tt) tt) i))

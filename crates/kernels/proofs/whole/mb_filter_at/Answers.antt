@@ -1,4 +1,4 @@
-use Rattle.std.proofs.Common.{true, sym, ◌∙◌, rules}
+use Rattle.std.proofs.Common.{true, sym, ◌∙◌}
 use Rattle.kernels.proofs.Filtered.{by-edge, far}
 use Rattle.kernels.proofs.whole.mb_filter_at.Goals as goal
 

@@ -1,4 +1,4 @@
-use Rattle.std.proofs.Common.{◌+◌, false, set, ℤ, ap, ◌∙◌, w16, w64, to_z, of_z, rules}
+use Rattle.std.proofs.Common.{◌+◌, false, set, ℤ, ap, ◌∙◌, w16, w64, to_z, of_z}
 use Rattle.arithmetic.specs.Numbers.{u2s}
 use Rattle.kernels.specs.Kernels.{filter_value, adjustment, adjusted_p0, adjusted_q0, outer_step}
 use Rattle.kernels.specs.Private.Windows.{softened_four}

@@ -1,4 +1,4 @@
-use Rattle.std.proofs.Common.{false, sym, ◌∙◌, rules}
+use Rattle.std.proofs.Common.{false, sym, ◌∙◌}
 use Rattle.kernels.proofs.Filtered.{by-edge, far}
 use Rattle.kernels.proofs.whole.subblock_filter_at.Goals as goal
 

@@ -1,4 +1,4 @@
-use Rattle.std.proofs.Common.{sym, ◌∙◌, rules}
+use Rattle.std.proofs.Common.{sym, ◌∙◌}
 use Rattle.kernels.specs.Private.Windows.{widened}
 use Rattle.kernels.proofs.Windows.{taken, left}
 use Rattle.kernels.proofs.whole.widen.Goals as goal

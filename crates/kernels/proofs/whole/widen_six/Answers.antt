@@ -1,4 +1,4 @@
-use Rattle.std.proofs.Common.{◌+◌, set, ℤ, ◌∙◌, w16, w64, to_z, of_z, rules}
+use Rattle.std.proofs.Common.{◌+◌, set, ℤ, ◌∙◌, w16, w64, to_z, of_z}
 use Rattle.kernels.specs.Kernels.{wide_value}
 use Rattle.kernels.specs.Private.Windows.{widened_six}
 use Rattle.arithmetic.proofs.Ranges as R

@@ -1,9 +1,7 @@
 use mathlib.Core.Path.{◌≡◌}
 use Prim.Native.Nat.{ℕ, ◌+◌, ◌-◌, ◌≤◌, ◌<◌}
-use native.Mathlib.Omega.{arith}
 use lib.IntN.{pos}
 use lib.ListN.{length, get_or}
-use Rattle.levels.proofs.Coefficients as C
 use Rattle.levels.proofs.coeffs.first_coeff.Given as goal
 
 abbrev pub invariant-loop-n : goal.invariant-loop-n

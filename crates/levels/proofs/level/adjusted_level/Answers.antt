@@ -1,7 +1,6 @@
 use mathlib.Core.Path.{refl, sym, ◌∙◌}
 use mir.Syntax.{w16, w32}
 use mir.Val.{of_z}
-use borrow.Author.Rules.{rules}
 use Rattle.levels.specs.Levels.{segment_level, ref_delta, mode_delta}
 use Rattle.arithmetic.proofs.Ranges as R
 use Rattle.levels.proofs.Levels as L

@@ -1,5 +1,4 @@
 use mathlib.Core.Path.{sym, ◌∙◌}
-use borrow.Author.Rules.{rules}
 use Rattle.levels.specs.Answers.{level_outcome}
 use Rattle.levels.proofs.Levels as L
 use Rattle.levels.proofs.level.calculate_mb_filter_level.Goals as goal

@@ -1,11 +1,8 @@
 use mathlib.Core.Path.{◌≡◌, sym, ap, ◌∙◌}
 use mathlib.Core.Bool.{true, false}
-use Prim.Native.Nat.{◌<◌}
-use native.Mathlib.Omega.{arith}
 use lib.IntN.{ℤ, pos, nat_abs}
 use lib.Signed.{lt_z, pos-nat_abs}
-use borrow.Author.Rules.{rules}
-use mir.Syntax.{w8, w32}
+use mir.Syntax.{w32}
 use Rattle.arithmetic.proofs.Ranges as R
 use Rattle.levels.proofs.Levels as L
 use Rattle.levels.proofs.level.clamp_level.Goals as goal

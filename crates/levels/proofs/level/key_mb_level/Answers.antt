@@ -1,5 +1,4 @@
 use mathlib.Core.Path.{◌∙◌}
-use borrow.Author.Rules.{rules}
 use Rattle.levels.specs.declared.modes.MaybeInter.TheVariants as inter
 use Rattle.levels.proofs.Levels as L
 use Rattle.levels.proofs.level.key_mb_level.Goals as goal

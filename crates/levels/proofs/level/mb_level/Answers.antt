@@ -1,7 +1,6 @@
 use mir.Syntax.{w32}
 use mathlib.Core.Path.{ap, ◌∙◌}
 use lib.IntN.{nat_abs}
-use borrow.Author.Rules.{rules}
 use Rattle.levels.specs.Levels.{clamp_level, inter_level}
 use Rattle.arithmetic.proofs.Ranges as R
 use Rattle.levels.proofs.level.mb_level.Goals as goal

@@ -1,6 +1,5 @@
 use mir.Syntax.{w32}
 use mathlib.Core.Path.{ap, ◌∙◌}
-use borrow.Author.Rules.{rules}
 use Rattle.levels.specs.Levels.{clamp_level, segment_level}
 use Rattle.arithmetic.proofs.Ranges as R
 use Rattle.levels.proofs.level.segment_level.Goals as goal

@@ -1,9 +1,8 @@
 use mathlib.Core.Path.{◌≡◌, refl, ap, ◌∙◌}
 use mathlib.Core.List.{List, []}
-use Prim.Native.Nat.{ℕ, ◌-◌, ◌≤◌, ◌/◌, ◌%◌, min}
+use Prim.Native.Nat.{ℕ, ◌/◌, ◌%◌, min}
 use native.Mathlib.Omega.{arith}
 use lib.ListN.{length, get_or, length-set}
-use borrow.Author.Rules.{rules}
 use Rattle.arithmetic.specs.Tables.{fill}
 use Rattle.limit_table.specs.InteriorLimits.{interior_byte, bytes_taken, with_bytes}
 use Rattle.arithmetic.proofs.Tables.{fill_none, fill-turn}

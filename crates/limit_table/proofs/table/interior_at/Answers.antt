@@ -1,4 +1,3 @@
-use borrow.Author.Rules.{rules}
 use native.Mathlib.Omega.{arith}
 use Rattle.limit_table.proofs.Entries.{arm}
 use Rattle.limit_table.proofs.table.interior_at.Goals as goal

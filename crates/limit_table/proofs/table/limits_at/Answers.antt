@@ -1,4 +1,3 @@
-use borrow.Author.Rules.{rules}
 use mathlib.Core.Path.{ap, ◌∙◌}
 use Prim.Native.Nat.{ℕ}
 use Rattle.arithmetic.specs.Limits.{with_interior, derive}
@@ -6,5 +5,5 @@ use Rattle.limit_table.proofs.table.limits_at.Goals as goal
 
 pub returns : goal.returns
 unfolding derive
-returns c =     let x = c.args in
+returns c = let x = c.args in
     c.with_interior.ensures ∙ ap (λ (i : ℕ). with_interior x.level i x.key) c.interior_at.ensures

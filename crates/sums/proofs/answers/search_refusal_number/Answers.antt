@@ -1,6 +1,5 @@
 use Rattle.sums.specs.Answers.{search_refusal_number}
 use mathlib.Core.Path.{sym, ap}
-use borrow.Author.Rules.{rules}
 use Rattle.sums.proofs.answers.search_refusal_number.Goals as goal
 
 pub returns-in-TooLarge : goal.returns-in-TooLarge

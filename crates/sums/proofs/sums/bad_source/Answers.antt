@@ -1,7 +1,6 @@
 use Rattle.sums.proofs.SumRefusals.{strides}
 use native.Mathlib.Omega.{arith}
 use mathlib.Core.Path.{sym, ◌∙◌}
-use borrow.Author.Rules.{rules}
 use Rattle.sums.proofs.sums.bad_source.Goals as goal
 
 pub short_planes-requires : goal.short_planes-requires

@@ -1,11 +1,6 @@
-use Rattle.planes.proofs.PastGrid.{row_in}
-use Rattle.sums.proofs.SumLaws.{rows_none, rows_more, grows, sum_is, sum_over}
-use Rattle.sums.specs.declared.answers.SumAnswer.TheVariants.{Sum}
 use Rattle.sums.specs.Sums.{rows_sum}
-use lib.ListN.{length}
-use native.Mathlib.Omega.{arith}
-use Prim.Native.Nat.{ℕ, ◌+◌, ◌-◌, ◌≤◌, ◌<◌, ◌^◌}
-use mathlib.Core.Path.{◌≡◌, ap, ◌∙◌}
+use Prim.Native.Nat.{◌+◌, ◌-◌, ◌≤◌, ◌<◌, ◌^◌}
+use mathlib.Core.Path.{◌≡◌}
 use Rattle.sums.proofs.sums.plane_sum.Given as goal
 
 abbrev pub invariant-loop-n : goal.invariant-loop-n

@@ -1,7 +1,6 @@
 use Prim.Native.Nat.{ℕ}
 use native.Mathlib.Omega.{arith}
 use mathlib.Core.Path.{◌≡◌, sym, ap, ◌∙◌}
-use borrow.Author.Rules.{rules}
 use Rattle.planes.specs.GridRefusals.{past_grid}
 use Rattle.planes.specs.Layout.{grid_of, planes_of}
 use Rattle.planes.proofs.PastGrid.{of-lengths, is-three, grid-small}

@@ -1,9 +1,5 @@
 use Rattle.sums.proofs.SumLaws.{row-none, row_more}
-use Rattle.sums.specs.Sums.{row_sum}
-use borrow.Author.Rules.{rules}
 use native.Mathlib.Omega.{arith}
-use Prim.Native.Nat.{◌≤◌, ◌*◌, ◌-◌}
-use mathlib.Core.Path.{◌≡◌, ◌∙◌, ap}
 use Rattle.sums.proofs.sums.row_sum.Goals as goal
 
 pub loop-k-init : goal.loop-k-init

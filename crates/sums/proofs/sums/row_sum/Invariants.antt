@@ -1,9 +1,6 @@
-use Rattle.sums.proofs.SumLaws.{row-none, row_more}
 use Rattle.sums.specs.Sums.{row_sum}
-use borrow.Author.Rules.{rules}
-use native.Mathlib.Omega.{arith}
 use Prim.Native.Nat.{◌≤◌, ◌*◌, ◌-◌}
-use mathlib.Core.Path.{◌≡◌, ◌∙◌, ap}
+use mathlib.Core.Path.{◌≡◌}
 use Rattle.sums.proofs.sums.row_sum.Given as goal
 
 abbrev pub invariant-loop-k : goal.invariant-loop-k

@@ -1,9 +1,8 @@
-use Rattle.sums.proofs.SumRefusals.{wide-eight, high-eight, no-columns, no_rows, is-source, small-source}
+use Rattle.sums.proofs.SumRefusals.{wide-eight, high-eight, no-columns, no_rows, is-source}
 use Rattle.sums.specs.Private.SumCode.{stride_off, short_of}
 use Rattle.sums.specs.Source.{bad_source_strides, short_source, source_needed}
 use mathlib.Core.Bool.{Bool, cond}
 use mathlib.Core.Path.{sym, ap, ◌∙◌}
-use borrow.Author.Rules.{rules}
 use Rattle.sums.proofs.sums.source_refusal.Goals as goal
 
 pub returns-then-over : goal.returns-then-over

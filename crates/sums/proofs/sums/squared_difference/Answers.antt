@@ -1,7 +1,6 @@
 use Rattle.sums.proofs.SumLaws.{square_le, squared-below, squared-above}
 use native.Mathlib.Omega.{arith}
 use Prim.Native.Nat.{◌-◌}
-use borrow.Author.Rules.{rules}
 use Rattle.sums.proofs.sums.squared_difference.Goals as goal
 
 pub returns-then-a-b : goal.returns-then-a-b

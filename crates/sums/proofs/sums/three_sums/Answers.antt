@@ -1,7 +1,6 @@
 use Rattle.sums.proofs.SumLaws.{not-sum, over-one, over-two, all_three}
 use Rattle.sums.specs.Sums.{error_sum, plane_sum}
 use mathlib.Core.Path.{sym, ◌∙◌}
-use borrow.Author.Rules.{rules}
 use Rattle.sums.proofs.sums.three_sums.Goals as goal
 
 pub returns-in_default : goal.returns-in_default

@@ -2,7 +2,7 @@
 use Rattle.calls.specs.Pass.{key_pass, inter_pass}
 use Rattle.calls.specs.Calls.{Promise}
 use Rattle.calls.specs.ExampleCalls.{left, key_picture, key_list, key₀, key₂, inter_picture, inter_list, inter₀, inter₁}
-use Rattle.calls.specs.CallExamples.{shown}
+use Rattle.calls.proofs.CallExamples.{shown}
 use Rattle.calls.proofs.Demand3.{key-pass-calls, inter-pass-calls}
 
 pub key-promised : Promise key_pass key_picture key₀ key_list (left key₂ 2)

@@ -9,4 +9,6 @@ pub mod Demand3
 pub mod Parts
 pub mod RowsLaws
 pub mod SentRows
+-- lists of calls, computed
+pub mod CallExamples
 pub mod CallsShown

@@ -7,7 +7,6 @@ use native.Mathlib.Omega.{arith}
 use lib.ListN.{length, get_or}
 use borrow.Rule.Slice.PartMut.{mid_of, put_mid}
 use Rattle.kernels.specs.Segment.{half, taps, segment, passes_at, mark, windowed}
-use Rattle.planes.specs.Steps.{steps, tally}
 use Rattle.planes.specs.Planes.{Planes, Grid, side, stride, plane, StridesHold, PlanesHold}
 use Rattle.planes.specs.Edges.{Direction, vertical, horizontal, tap_at, first_row, first_column, Edge, edge_tap, filter_edge}
 use Rattle.planes.specs.Smoothed.{edge_smoothed}

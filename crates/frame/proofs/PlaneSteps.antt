@@ -2,7 +2,7 @@
 -- Assumes nothing.
 use mathlib.Core.Path.{◌≡◌, refl, sym, ap, ap₂, subst, ◌∙◌}
 use mathlib.Core.Bool.{Bool, true, false, cond}
-use Prim.Native.Nat.{ℕ, zero, suc, ◌+◌, ◌-◌, ◌*◌, ◌/◌, ◌%◌, ◌≤◌, ◌<◌}
+use Prim.Native.Nat.{ℕ, zero, suc, ◌+◌, ◌-◌, ◌*◌, ◌≤◌, ◌<◌}
 use native.Mathlib.Nat.{add-mul, add-zero}
 use native.Mathlib.Omega.{arith}
 use lib.Dec.{ltb}
@@ -10,7 +10,7 @@ use borrow.Author.Tests.{ltb-true, le-ltb, lt-ltb}
 use Rattle.kernels.specs.Segment.{Kernel, half}
 use Rattle.kernels.proofs.KernelLaws.{half-most}
 use Rattle.planes.specs.Planes.{Planes, Plane, luma, chroma_u, chroma_v, Grid, side, stride, grid_row, grid_column}
-use Rattle.planes.specs.Edges.{Direction, vertical, horizontal, Edge, first_row, first_column, borders, insides}
+use Rattle.planes.specs.Edges.{Direction, vertical, horizontal, first_row, first_column, borders, insides}
 use Rattle.planes.specs.Private.Worked.{Worked, work_edge, WorkedPlanes, samples_of, total_of, unworked}
 use Rattle.planes.specs.Layout.{grid_of}
 use Rattle.planes.specs.declared.layout.PlaneLayout.{PlaneLayout}

@@ -1,16 +1,11 @@
 -- The square of each macroblock lies in its plane.
 -- Assumes nothing.
-use mathlib.Core.Path.{◌≡◌, sym, ap, ◌∙◌}
-use mathlib.Core.List.{List}
-use Prim.Native.Nat.{ℕ, ◌+◌, ◌-◌, ◌*◌, ◌/◌, ◌%◌, ◌≤◌, ◌<◌}
-use native.Mathlib.Nat.{add-mul, mul-le-mul_left, mul-le-mul_right, mod-lt, div-lt_iff_lt-mul, mul_comm, le_trans}
+use Prim.Native.Nat.{ℕ, ◌+◌, ◌-◌, ◌*◌, ◌≤◌, ◌<◌}
+use native.Mathlib.Nat.{add-mul, mul-le-mul_left, mul-le-mul_right, mod-lt, div-lt_iff_lt-mul, mul_comm}
 use native.Mathlib.Omega.{arith}
 use lib.ListN.{length}
-use Rattle.planes.specs.Planes.{Plane, luma, chroma_u, chroma_v, Planes, Grid, side, stride, plane, macroblocks, grid_row, grid_column, StridesHold, PlanesHold}
+use Rattle.planes.specs.Planes.{Plane, Planes, Grid, side, stride, plane, macroblocks, grid_row, grid_column, StridesHold, PlanesHold}
 use Rattle.frame.specs.Private.PlaneEdges.{Square}
-use Rattle.planes.specs.Layout.{grid_of, planes_of}
-use Rattle.frame.specs.Private.Ranges.{Sound}
-use Rattle.planes.specs.declared.layout.PlaneLayout.{PlaneLayout}
 use Rattle.planes.proofs.Fits.{side-least, factor-positive, square-within}
 
 -- a product is at least its factor

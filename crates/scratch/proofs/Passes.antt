@@ -17,7 +17,7 @@ use Rattle.planes.proofs.Alike.{length-steps}
 use Rattle.planes.proofs.GridLaws.{none}
 use Rattle.planes.proofs.PastGrid.{Sound, grid-sound, with-grid, past_is, grid-passes}
 use Rattle.calls.specs.Answers.{Passed}
-use Rattle.calls.specs.Pass.{Pass, key_pass, inter_pass, Call, refusal, step, count, answer, planes_after}
+use Rattle.calls.specs.Pass.{Pass, key_pass, inter_pass, Call, refusal, step, count, planes_after}
 use Rattle.calls.specs.PassCalls.{key_call, inter_call, key_lists, inter_lists}
 use Rattle.calls.specs.declared.answers.PassAnswer.{PassAnswer}
 use Rattle.scratch.specs.Copies.{copy_grid}

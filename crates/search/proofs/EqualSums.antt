@@ -3,7 +3,7 @@
 use mathlib.Core.Path.{◌≡◌, refl, sym, ap, subst, ◌∙◌}
 use mathlib.Core.Bool.{Bool, true, false, cond, ◌||◌}
 use mathlib.Core.List.{List, [], ◌∷◌}
-use Prim.Native.Nat.{ℕ, zero, suc, ◌+◌, ◌-◌, ◌<◌, min}
+use Prim.Native.Nat.{ℕ, ◌+◌, ◌-◌, ◌<◌, min}
 use native.Mathlib.Omega.{arith}
 use lib.Dec.{eqb, ltb}
 use borrow.Author.Tests.{le-ltb, ne_eqb}
@@ -15,7 +15,7 @@ use Rattle.calls.specs.Pass.{Pass, refusal, step, count, planes_after}
 use Rattle.planes.proofs.GridLaws.{none}
 use Rattle.search.specs.Candidates.{Candidate, Standing, fold, keep, upward, coarse_levels, near, above_zero, consider, at_base, unfiltered, coarse, other_level, refined, other_sharpness, searched}
 use Rattle.sums.specs.Sums.{error_sum}
-use Rattle.search.specs.Search.{SearchCall, Choice, settings_at, pass_over, candidate_planes, planes_of_candidate, score, base_sharpness, search, choice}
+use Rattle.search.specs.Search.{SearchCall, settings_at, pass_over, candidate_planes, planes_of_candidate, score, base_sharpness, search, choice}
 
 -- ---- equal sums
 

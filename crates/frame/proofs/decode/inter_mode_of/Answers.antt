@@ -1,5 +1,4 @@
 use mathlib.Core.Path.{sym, ◌∙◌}
-use borrow.Author.Rules.{rules}
 use Rattle.levels.proofs.Encodings.{inter-found, inter-last}
 use Rattle.frame.proofs.decode.inter_mode_of.Goals as goal
 

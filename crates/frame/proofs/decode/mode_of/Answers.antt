@@ -1,5 +1,4 @@
 use mathlib.Core.Path.{sym, ◌∙◌}
-use borrow.Author.Rules.{rules}
 use Rattle.levels.proofs.Encodings.{mode-found, mode-last}
 use Rattle.frame.proofs.decode.mode_of.Goals as goal
 

@@ -1,5 +1,4 @@
 use mathlib.Core.Path.{sym, ◌∙◌}
-use borrow.Author.Rules.{rules}
 use Rattle.levels.proofs.Encodings.{reference-found, reference-last}
 use Rattle.frame.proofs.decode.reference_of.Goals as goal
 

@@ -1,11 +1,6 @@
-use borrow.Author.Rules.{rules}
-use Prim.Native.Nat.{◌+◌, ◌-◌, ◌*◌}
 use native.Mathlib.Omega.{arith}
-use lib.ListN.{length}
 use Rattle.edges.specs.NormalKernels.{inner_of}
-use Rattle.planes.specs.Edges.{horizontal}
-use Rattle.frame.specs.Private.PlaneEdges.{three_horizontal}
-use Rattle.frame.proofs.EdgesWithin.{did-if, did-not, within-most, three-horizontal-within}
+use Rattle.frame.proofs.EdgesWithin.{did-if, within-most, three-horizontal-within}
 use Rattle.kernels.specs.Segment.{half, taps}
 use Rattle.frame.proofs.normal.inner_horizontal16.Goals as goal
 

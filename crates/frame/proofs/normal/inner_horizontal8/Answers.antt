@@ -1,12 +1,7 @@
-use borrow.Author.Rules.{rules}
-use Prim.Native.Nat.{◌+◌, ◌-◌, ◌*◌}
 use native.Mathlib.Omega.{arith}
-use lib.ListN.{length}
 use Rattle.edges.specs.NormalKernels.{inner_of}
-use Rattle.planes.specs.Edges.{horizontal}
 use Rattle.kernels.specs.Segment.{half, taps}
-use Rattle.frame.specs.Private.PlaneEdges.{along}
-use Rattle.frame.proofs.EdgesWithin.{did-if, did-not, did-horizontal}
+use Rattle.frame.proofs.EdgesWithin.{did-if, did-horizontal}
 use Rattle.frame.proofs.normal.inner_horizontal8.Goals as goal
 
 pub returns-then-inside : goal.returns-then-inside

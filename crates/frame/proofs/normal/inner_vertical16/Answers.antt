@@ -1,11 +1,6 @@
-use borrow.Author.Rules.{rules}
-use Prim.Native.Nat.{◌+◌, ◌-◌, ◌*◌}
 use native.Mathlib.Omega.{arith}
-use lib.ListN.{length}
 use Rattle.edges.specs.NormalKernels.{inner_of}
-use Rattle.planes.specs.Edges.{vertical}
-use Rattle.frame.specs.Private.PlaneEdges.{three_vertical}
-use Rattle.frame.proofs.EdgesWithin.{did-if, did-not, within-most, three-vertical-within}
+use Rattle.frame.proofs.EdgesWithin.{did-if, within-most, three-vertical-within}
 use Rattle.kernels.specs.Segment.{half, taps}
 use Rattle.frame.proofs.normal.inner_vertical16.Goals as goal
 

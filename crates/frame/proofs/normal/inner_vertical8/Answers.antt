@@ -1,12 +1,7 @@
-use borrow.Author.Rules.{rules}
-use Prim.Native.Nat.{◌+◌, ◌-◌, ◌*◌}
 use native.Mathlib.Omega.{arith}
-use lib.ListN.{length}
 use Rattle.edges.specs.NormalKernels.{inner_of}
-use Rattle.planes.specs.Edges.{vertical}
 use Rattle.kernels.specs.Segment.{half, taps}
-use Rattle.frame.specs.Private.PlaneEdges.{along}
-use Rattle.frame.proofs.EdgesWithin.{did-if, did-not, did-vertical}
+use Rattle.frame.proofs.EdgesWithin.{did-if, did-vertical}
 use Rattle.frame.proofs.normal.inner_vertical8.Goals as goal
 
 pub returns-then-inside : goal.returns-then-inside

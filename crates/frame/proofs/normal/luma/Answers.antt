@@ -1,4 +1,3 @@
-use borrow.Author.Rules.{rules}
 use Rattle.frame.specs.Private.PlaneEdges.{luma_from}
 use Rattle.frame.proofs.EdgesWithin.{did_then}
 use Rattle.frame.proofs.normal.luma.Goals as goal

@@ -3,7 +3,6 @@ use Rattle.calls.specs.Pass.{key_pass}
 use Rattle.calls.specs.PassCalls.{key_call, key_lists}
 use Rattle.frame.proofs.Passes.{key_meets, key-range, ends}
 use Rattle.judge.proofs.Judgement.{Meets}
-use borrow.Author.Rules.{rules}
 use Rattle.frame.proofs.pass.filter_frame.Goals as goal
 
 pub filter_key_range-smoothed-requires : goal.filter_key_range-smoothed-requires

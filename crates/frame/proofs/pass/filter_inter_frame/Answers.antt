@@ -3,7 +3,6 @@ use Rattle.calls.specs.Pass.{inter_pass}
 use Rattle.calls.specs.PassCalls.{inter_call, inter_lists}
 use Rattle.frame.proofs.Passes.{inter-meets, inter-range, ends}
 use Rattle.judge.proofs.Judgement.{Meets}
-use borrow.Author.Rules.{rules}
 use Rattle.frame.proofs.pass.filter_inter_frame.Goals as goal
 
 pub filter_inter_range-smoothed-requires : goal.filter_inter_range-smoothed-requires

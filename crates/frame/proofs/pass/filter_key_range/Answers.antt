@@ -1,15 +1,9 @@
-use mathlib.Core.Path.{◌≡◌, refl, ◌∙◌}
-use Prim.Native.Nat.{◌-◌, ◌≤◌}
+use mathlib.Core.Path.{refl, ◌∙◌}
 use native.Mathlib.Nat.{le_refl}
 use native.Mathlib.Omega.{arith}
-use borrow.Author.Rules.{rules}
-use lib.ListN.{length}
-use Rattle.calls.specs.Entries.{key_entry}
-use Rattle.planes.specs.Layout.{grid_of, planes_of}
-use Rattle.calls.specs.Pass.{key_pass, step}
+use Rattle.planes.specs.Layout.{planes_of}
+use Rattle.calls.specs.Pass.{key_pass}
 use Rattle.calls.specs.PassCalls.{key_lists}
-use Rattle.planes.specs.Steps.{steps, tally}
-use Rattle.calls.specs.Smoothed.{step_smoothed}
 use Rattle.calls.proofs.EntryLaws.{key-plan}
 use Rattle.frame.proofs.Passes.{no-turn, one-turn, no-count, one-count, few-after}
 use Rattle.frame.proofs.Soundness.{sound-kept, few-macroblocks}

@@ -1,7 +1,6 @@
 use Rattle.calls.specs.Entries.{no_record}
 use native.Mathlib.Omega.{arith}
-use Rattle.planes.specs.Layout.{planes_of, grid_of}
-use Rattle.planes.specs.Planes.{macroblocks}
+use Rattle.planes.specs.Layout.{planes_of}
 use Rattle.planes.proofs.GridLaws.{grid-fits}
 use Rattle.frame.proofs.RecordPasses.{inter_kind, kept-none, kept-ready, kept-next, kept-passed, in_list}
 use Rattle.frame.proofs.record_pass.filter_inter_frame_records.Goals as goal

@@ -1,4 +1,3 @@
-use borrow.Author.Rules.{rules}
 use Rattle.frame.proofs.RecordLaws.{inter-record-level}
 use Rattle.frame.proofs.record_step.inter_record_level.Goals as goal
 

@@ -1,7 +1,5 @@
-use borrow.Author.Rules.{rules}
 use native.Mathlib.Omega.{arith}
 use Rattle.planes.specs.Layout.{planes_of}
-use Rattle.planes.specs.Macroblock.{Plan}
 use Rattle.frame.proofs.PlaneSteps.{stepped-most}
 use Rattle.frame.proofs.RecordLaws.{inter-record-step}
 use Rattle.frame.proofs.Soundness.{few-macroblocks}

@@ -1,4 +1,3 @@
-use borrow.Author.Rules.{rules}
 use Rattle.frame.proofs.RecordLaws.{record-inside}
 use Rattle.frame.proofs.record_step.record_inner_edges.Goals as goal
 

@@ -1,11 +1,6 @@
-use borrow.Author.Rules.{rules}
-use Prim.Native.Nat.{◌+◌, ◌-◌, ◌*◌}
 use native.Mathlib.Omega.{arith}
-use lib.ListN.{length}
 use Rattle.kernels.specs.Segment.{simple_segment, half, taps}
-use Rattle.planes.specs.Edges.{horizontal}
-use Rattle.frame.specs.Private.PlaneEdges.{three_horizontal}
-use Rattle.frame.proofs.EdgesWithin.{did-if, did-not, within-most, three-horizontal-within}
+use Rattle.frame.proofs.EdgesWithin.{did-if, within-most, three-horizontal-within}
 use Rattle.frame.proofs.simple.inner_horizontal.Goals as goal
 
 pub overflow_add-b : goal.overflow_add-b

@@ -1,11 +1,6 @@
-use borrow.Author.Rules.{rules}
-use Prim.Native.Nat.{◌+◌, ◌-◌, ◌*◌}
 use native.Mathlib.Omega.{arith}
-use lib.ListN.{length}
 use Rattle.kernels.specs.Segment.{simple_segment, half, taps}
-use Rattle.planes.specs.Edges.{vertical}
-use Rattle.frame.specs.Private.PlaneEdges.{three_vertical}
-use Rattle.frame.proofs.EdgesWithin.{did-if, did-not, within-most, three-vertical-within}
+use Rattle.frame.proofs.EdgesWithin.{did-if, within-most, three-vertical-within}
 use Rattle.frame.proofs.simple.inner_vertical.Goals as goal
 
 pub overflow_add-b : goal.overflow_add-b

@@ -1,11 +1,8 @@
-use borrow.Author.Rules.{rules}
-use mathlib.Core.Path.{◌≡◌, refl, sym, ap, ◌∙◌}
+use mathlib.Core.Path.{refl, sym, ap, ◌∙◌}
 use mathlib.Core.Bool.{Bool, cond}
-use lib.ListN.{length}
-use lib.Dec.{eqb}
 use Rattle.arithmetic.specs.declared.limits.LoopFilterParams.{LoopFilterParams}
 use Rattle.planes.specs.Layout.{grid_of, planes_of}
-use Rattle.planes.specs.Macroblock.{Plan, leave}
+use Rattle.planes.specs.Macroblock.{leave}
 use borrow.Author.Tests.{eq-eqb, ne_eqb}
 use Rattle.arithmetic.specs.Limits.{derive}
 use Rattle.calls.specs.Pass.{plan_with, plan_at}
@@ -26,7 +23,7 @@ returns-then-level-ne0 c =
 
 pub returns-else-level-ne0 : goal.returns-else-level-ne0
 unfolding plan_at
-returns-else-level-ne0 c =     let x = c.args in
+returns-else-level-ne0 c = let x = c.args in
     let p = planes_of x.y.now x.u.now x.v.now in
     let g = grid_of x.layout in
     stepped-as x.layout x.m p p 0

@@ -1,16 +1,12 @@
-use borrow.Author.Rules.{rules}
-use mathlib.Core.Path.{◌≡◌, refl, sym, ap, ◌∙◌}
+use mathlib.Core.Path.{refl, sym, ap, ◌∙◌}
 use mathlib.Core.Bool.{Bool}
 use native.Mathlib.Omega.{arith}
-use lib.ListN.{length}
 use Rattle.kernels.specs.Segment.{half, simple_segment}
 use Rattle.planes.specs.Layout.{grid_of, planes_of}
 use Rattle.edges.specs.NormalKernels.{outer_of, inner_of}
-use Rattle.planes.specs.Macroblock.{Plan}
 use Rattle.planes.specs.Planes.{luma, chroma_u, chroma_v}
 use Rattle.calls.specs.Pass.{plan_with}
 use Rattle.planes.specs.Private.Worked.{unworked}
-use Rattle.planes.proofs.Fits.{factor-positive}
 use Rattle.frame.proofs.Squares.{square-of}
 use Rattle.frame.proofs.PlaneSteps.{normal-step, simple-step, stepped, stepped-as}
 use Rattle.frame.proofs.step.filter_with.Goals as goal

@@ -1,6 +1,5 @@
 use Prim.Native.Nat.{ℕ}
 use mathlib.Core.Path.{◌≡◌, sym, ◌∙◌}
-use borrow.Author.Rules.{rules}
 use Rattle.planes.specs.GridRefusals.{past_grid}
 use Rattle.planes.specs.Layout.{grid_of, planes_of}
 use Rattle.scratch.proofs.CopyLaws.{scratch-by-lengths, both-pass, copied, not-copied}

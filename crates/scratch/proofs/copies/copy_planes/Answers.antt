@@ -1,7 +1,6 @@
 use mathlib.Core.Bool.{false}
 use mathlib.Core.Path.{◌≡◌, sym, ◌∙◌}
 use native.Mathlib.Omega.{arith}
-use borrow.Author.Rules.{rules}
 use Rattle.planes.specs.GridRefusals.{zero_grid}
 use Rattle.planes.specs.Layout.{grid_of, planes_of}
 use Rattle.planes.specs.Planes.{luma, chroma_u, chroma_v, PlanesHold}

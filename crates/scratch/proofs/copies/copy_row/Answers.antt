@@ -1,9 +1,6 @@
 use Rattle.scratch.proofs.CopyLaws.{row-none, row_more}
-use Rattle.scratch.specs.Copies.{copy_row}
 use native.Mathlib.Omega.{arith}
-use lib.ListN.{length, length-set}
-use Prim.Native.Nat.{ℕ, ◌≤◌, ◌-◌}
-use mathlib.Core.Path.{◌≡◌, ap, ◌∙◌}
+use lib.ListN.{length-set}
 use Rattle.scratch.proofs.copies.copy_row.Goals as goal
 
 pub loop-k-init : goal.loop-k-init

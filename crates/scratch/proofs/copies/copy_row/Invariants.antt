@@ -1,9 +1,7 @@
-use Rattle.scratch.proofs.CopyLaws.{row-none, row_more}
 use Rattle.scratch.specs.Copies.{copy_row}
-use native.Mathlib.Omega.{arith}
-use lib.ListN.{length, length-set}
-use Prim.Native.Nat.{ℕ, ◌≤◌, ◌-◌}
-use mathlib.Core.Path.{◌≡◌, ap, ◌∙◌}
+use lib.ListN.{length}
+use Prim.Native.Nat.{◌≤◌, ◌-◌}
+use mathlib.Core.Path.{◌≡◌}
 use Rattle.scratch.proofs.copies.copy_row.Given as goal
 
 abbrev pub invariant-loop-k : goal.invariant-loop-k

@@ -1,10 +1,7 @@
 use Rattle.scratch.proofs.CopyLaws.{rows_none, rows_more, row-length}
-use Rattle.planes.proofs.PastGrid.{row_in}
-use Rattle.scratch.specs.Copies.{copy_rows}
 use native.Mathlib.Omega.{arith}
 use lib.ListN.{length}
-use Prim.Native.Nat.{ℕ, ◌≤◌, ◌-◌}
-use mathlib.Core.Path.{◌≡◌, ap, ◌∙◌}
+use mathlib.Core.Path.{ap, ◌∙◌}
 use Rattle.scratch.proofs.copies.copy_rows.Goals as goal
 
 pub loop-r-init : goal.loop-r-init

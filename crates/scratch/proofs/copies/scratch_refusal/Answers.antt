@@ -1,4 +1,3 @@
-use borrow.Author.Rules.{rules}
 use Rattle.scratch.proofs.CopyLaws.{first-refused, first-passed}
 use Rattle.scratch.proofs.copies.scratch_refusal.Goals as goal
 

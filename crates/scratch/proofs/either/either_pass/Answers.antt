@@ -1,5 +1,4 @@
 use Rattle.scratch.proofs.Passes.{by-inter, by_key}
-use borrow.Author.Rules.{rules}
 use Rattle.scratch.proofs.either.either_pass.Goals as goal
 
 pub returns-then-inter : goal.returns-then-inter

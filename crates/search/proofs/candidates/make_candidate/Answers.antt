@@ -1,7 +1,6 @@
 use Prim.Native.Nat.{ℕ}
 use mathlib.Core.Path.{◌≡◌, sym, ◌∙◌}
 use native.Mathlib.Omega.{arith}
-use borrow.Author.Rules.{rules}
 use Rattle.planes.specs.GridRefusals.{past_grid}
 use Rattle.planes.specs.Layout.{grid_of, planes_of}
 use Rattle.planes.proofs.PastGrid.{macroblocks-most}

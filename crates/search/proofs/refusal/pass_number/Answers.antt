@@ -1,5 +1,4 @@
 use mathlib.Core.Path.{sym, ap, ◌∙◌}
-use borrow.Author.Rules.{rules}
 use Rattle.arithmetic.specs.Outcome.{number_of}
 use Rattle.calls.specs.Answers.{pass_outcome}
 use Rattle.calls.specs.declared.answers.PassAnswer.{PassAnswer}

@@ -1,5 +1,4 @@
 use mathlib.Core.Path.{sym, ap, ◌∙◌}
-use borrow.Author.Rules.{rules}
 use Rattle.arithmetic.specs.Outcome.{number_of}
 use Rattle.sums.specs.Answers.{sum_outcome}
 use Rattle.sums.specs.declared.answers.SumAnswer.{SumAnswer}

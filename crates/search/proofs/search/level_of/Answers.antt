@@ -1,5 +1,4 @@
 use mathlib.Core.Path.{sym, ap}
-use borrow.Author.Rules.{rules}
 use Rattle.search.specs.Search.{level_only}
 use Rattle.search.specs.Answers.{params_outcome, level_only_outcome}
 use Rattle.search.specs.declared.answers.ParamsAnswer.{ParamsAnswer}

@@ -1,4 +1,3 @@
-use borrow.Author.Rules.{rules}
 use Rattle.search.specs.Search.{planes_of_candidate}
 use Rattle.search.proofs.Endings.{ended}
 use Rattle.search.proofs.search.search_all.Goals as goal

@@ -1,16 +1,8 @@
-use Rattle.search.proofs.TrialLaws.{trials-none, trials-more, count-more, trials-end}
+use Rattle.search.proofs.TrialLaws.{trials-none, trials-more, count-more}
 use Rattle.scratch.proofs.AlikeLaws.{alike_self, alike_then}
-use Rattle.scratch.specs.EitherPass.{pass_of}
-use Rattle.scratch.specs.Private.Alike.{Alike}
-use Rattle.search.specs.Private.SearchCode.{after_trial}
-use Rattle.search.specs.Search.{score, planes_of_candidate, setup_call}
-use Rattle.planes.specs.Layout.{grid_of, planes_of}
-use Rattle.planes.specs.Planes.{luma, chroma_u, chroma_v}
-use Rattle.planes.specs.Steps.{steps}
-use borrow.Author.Rules.{rules}
+use Rattle.search.specs.Search.{score, planes_of_candidate}
 use native.Mathlib.Omega.{arith}
-use Prim.Native.Nat.{◌-◌, ◌≤◌}
-use mathlib.Core.Path.{◌≡◌, refl, ◌∙◌}
+use mathlib.Core.Path.{refl}
 use Rattle.search.proofs.search.search_trials.Goals as goal
 
 pub loop-i-init : goal.loop-i-init

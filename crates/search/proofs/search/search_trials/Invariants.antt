@@ -1,16 +1,11 @@
-use Rattle.search.proofs.TrialLaws.{trials-none, trials-more, count-more, trials-end}
-use Rattle.scratch.proofs.AlikeLaws.{alike_self, alike_then}
 use Rattle.scratch.specs.EitherPass.{pass_of}
 use Rattle.scratch.specs.Private.Alike.{Alike}
 use Rattle.search.specs.Private.SearchCode.{after_trial}
-use Rattle.search.specs.Search.{score, planes_of_candidate, setup_call}
+use Rattle.search.specs.Search.{score, setup_call}
 use Rattle.planes.specs.Layout.{grid_of, planes_of}
-use Rattle.planes.specs.Planes.{luma, chroma_u, chroma_v}
 use Rattle.planes.specs.Steps.{steps}
-use borrow.Author.Rules.{rules}
-use native.Mathlib.Omega.{arith}
 use Prim.Native.Nat.{◌-◌, ◌≤◌}
-use mathlib.Core.Path.{◌≡◌, refl, ◌∙◌}
+use mathlib.Core.Path.{◌≡◌}
 use Rattle.search.proofs.search.search_trials.Given as goal
 
 abbrev pub invariant-loop-i : goal.invariant-loop-i

@@ -1,4 +1,3 @@
-use borrow.Author.Rules.{rules}
 use Rattle.planes.specs.Layout.{planes_of}
 use Rattle.sums.specs.Bytes.{BytePlanes}
 use Rattle.scratch.proofs.AlikeLaws.{alike_self, alike-copy}

@@ -1,6 +1,5 @@
 use Rattle.search.specs.Candidates.{near}
 use mathlib.Core.Path.{refl}
-use borrow.Author.Rules.{rules}
 use Rattle.search.proofs.trials.is_near.Goals as goal
 
 pub returns : goal.returns

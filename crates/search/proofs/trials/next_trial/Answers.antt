@@ -1,6 +1,5 @@
 use Rattle.search.specs.Private.SearchCode.{trial_of}
 use borrow.Author.Tests.{lt-ltb, le-ltb}
-use borrow.Author.Rules.{rules}
 use Rattle.search.proofs.trials.next_trial.Goals as goal
 
 pub returns-then-i-lt-COARSE_END : goal.returns-then-i-lt-COARSE_END

@@ -1,6 +1,5 @@
 use Rattle.search.specs.Private.SearchCode.{taken}
 use borrow.Author.Tests.{lt-ltb, le-ltb}
-use borrow.Author.Rules.{rules}
 use Rattle.search.proofs.trials.take.Goals as goal
 
 pub returns-then-sum-best : goal.returns-then-sum-best

@@ -1,5 +1,4 @@
 use mathlib.Core.Path.{◌∙◌}
-use borrow.Author.Rules.{rules}
 use Rattle.planes.specs.Layout.{planes_of}
 use Rattle.sums.specs.Answers.{sum_outcome}
 use Rattle.sums.specs.Bytes.{BytePlanes}

@@ -1,5 +1,5 @@
 -- Header level 0, computed: reference deltas of 20, or segment levels of 20, lift every macroblock to level 20. The pass filters the planes of `ExampleCalls`, and the frame call leaves them; both count the same macroblocks as done.
-use Rattle.std.specs.Prelude.{◌≡◌, refl, Bool, true, false, not, List, [], ◌∷◌, pos, ℕ, zero, suc}
+use Rattle.std.specs.Prelude.{◌≡◌, refl, Bool, true, false, not, [], ◌∷◌, pos, ℕ}
 use Rattle.arithmetic.specs.Numbers.{clamp, u2s, s2u, shr}
 use Rattle.arithmetic.specs.Limits.{at_least_one, interior_limit, hev_threshold, mbedge_limit, sub_bedge_limit, with_interior, derive}
 use Rattle.arithmetic.specs.Outcome.{gives, refuses}
@@ -9,12 +9,12 @@ use Rattle.levels.specs.Encodings.{mode_of, reference_of, inter_mode_of, bad_mod
 use Rattle.levels.specs.Levels as levels
 use Rattle.levels.specs.declared.config.FrameFilterConfig.{FrameFilterConfig}
 use Rattle.planes.specs.Steps.{steps}
-use Rattle.planes.specs.Planes.{Planes, Grid}
+use Rattle.planes.specs.Planes.{Planes}
 use Rattle.planes.specs.Edges.{first_row, first_column, edge_tap, filter_edge, borders, insides, places}
 use Rattle.planes.specs.Macroblock.{only, edge_at, edges_at, filter_edges, filter_macroblock}
 use Rattle.planes.specs.GridRefusals.{zero_grid, too_large, bad_strides, needed, short_planes, after_grid}
 use Rattle.calls.specs.Entries.{KeyCarried, InterCarried, segment_byte, key_record, no_record, entry_of, key_entry, inter_entry, length_is_not, key_lengths_wrong, inter_lengths_wrong, any_of, key_bad_entry, inter_bad_entry}
-use Rattle.calls.specs.Pass.{Pass, Call, key_pass, inter_pass, is_b, inside_of, plan_with, plan_at, key_plan, inter_plan, refusal, step, count, next, answer, planes_after}
+use Rattle.calls.specs.Pass.{Call, key_pass, inter_pass, is_b, inside_of, plan_with, plan_at, key_plan, inter_plan, refusal, step, count, next, answer, planes_after}
 use Rattle.calls.specs.ExampleCalls.{key_grid, key_example_lists, key_example_records, key₀, key₃, without_last_row, inter_grid, inter_example_lists, inter₀, inter₂}
 use Rattle.frame_calls.specs.Skip.{filter_off, key_frame_pass, inter_frame_pass, frame_call}
 

@@ -7,7 +7,6 @@ use lib.IntN.{ℤ}
 use mir.Syntax.{w16}
 use mir.Val.{SFits, to_z, of_z}
 use mir.Facts.{to_z-of_z}
-use Rattle.levels.specs.declared.config.FrameFilterConfig.{FrameFilterConfig}
 use Rattle.loop_filter.specs.Settings.{settings_of}
 
 abbrev bits : ℤ → ℤ

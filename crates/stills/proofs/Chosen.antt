@@ -2,8 +2,8 @@
 use mathlib.Core.Path.{◌≡◌, refl, sym, ap, subst, ◌∙◌}
 use mathlib.Core.Bool.{Bool, true, false, cond, ◌&&◌, ◌||◌}
 use mathlib.Core.List.{List, [], ◌∷◌}
-use mathlib.Core.Logic.{◌⊎◌, inl, inr, ⊎_elim}
-use Prim.Native.Nat.{ℕ, zero, suc, ◌+◌, ◌-◌, ◌*◌, ◌/◌, ◌%◌, ◌≤◌, ◌<◌, min}
+use mathlib.Core.Logic.{inl, inr}
+use Prim.Native.Nat.{ℕ, zero, suc, ◌+◌, ◌-◌, ◌*◌, ◌/◌, ◌%◌, ◌≤◌, ◌<◌}
 use native.Mathlib.Omega.{arith}
 use native.Mathlib.Nat.{mod-lt, div-add-mod'}
 use lib.Dec.{eqb, ltb, leb}
@@ -22,7 +22,7 @@ use Rattle.search.specs.Search.{SearchCall, score, base_sharpness, search}
 use Rattle.search.proofs.CountLaws.{both}
 use Rattle.search.proofs.EqualSums.{planes-stay}
 use Rattle.search.proofs.FoldLaws.{none-smaller}
-use Rattle.stills.specs.FullSearch.{FullChoice, pair_at, after_pairs, full_search, full_choice}
+use Rattle.stills.specs.FullSearch.{pair_at, after_pairs, full_search, full_choice}
 use Rattle.stills.specs.Promise.{IsCandidate, Before, Promise}
 
 -- ---- the candidates by their number, in the order of ties

@@ -13,7 +13,6 @@ use Rattle.sums.specs.Answers.{search_refusal_number}
 use Rattle.sums.specs.Sums.{error_sum}
 use Rattle.sums.specs.declared.answers.SearchRefusal.{SearchRefusal}
 use Rattle.scratch.specs.Copies.{copy_grid, copied_grid}
-use Rattle.scratch.specs.Private.Alike.{Alike}
 use Rattle.scratch.proofs.CopyLaws.{steps_next}
 use Rattle.search.specs.Candidates.{Candidate, Standing, consider, unfiltered}
 use Rattle.search.specs.Search.{SearchCall, planes_of_candidate, score, base_sharpness, search_refusal, Unfiltered}

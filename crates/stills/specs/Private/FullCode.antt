@@ -4,7 +4,7 @@ use Rattle.planes.specs.Planes.{Planes}
 use Rattle.calls.specs.Pass.{Pass}
 use Rattle.scratch.specs.Copies.{copy_grid}
 use Rattle.scratch.specs.Private.Alike.{Alike}
-use Rattle.search.specs.Candidates.{Candidate, Standing}
+use Rattle.search.specs.Candidates.{Standing}
 use Rattle.search.specs.Search.{SearchCall, planes_of_candidate, score}
 use Rattle.stills.specs.FullSearch.{pair_at, after_pairs, full_search}
 use Rattle.stills.specs.declared.full_search.Best.{Best}

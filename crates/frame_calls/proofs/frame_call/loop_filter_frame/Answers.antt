@@ -1,4 +1,3 @@
-use borrow.Author.Rules.{rules}
 use Rattle.calls.specs.Pass.{key_pass}
 use Rattle.frame_calls.proofs.SettingsLaws.{key-quiet, framed}
 use Rattle.frame_calls.proofs.frame_call.loop_filter_frame.Goals as goal

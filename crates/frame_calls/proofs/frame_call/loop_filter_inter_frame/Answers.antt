@@ -1,4 +1,3 @@
-use borrow.Author.Rules.{rules}
 use Rattle.calls.specs.Pass.{inter_pass}
 use Rattle.frame_calls.proofs.SettingsLaws.{inter-quiet, framed}
 use Rattle.frame_calls.proofs.frame_call.loop_filter_inter_frame.Goals as goal

@@ -1,7 +1,5 @@
-use borrow.Author.Rules.{rules}
 use mathlib.Core.Path.{refl, sym, ap, ◌∙◌}
-use Prim.Native.Nat.{ℕ}
-use Rattle.arithmetic.specs.Outcome.{Outcome, number_of}
+use Rattle.arithmetic.specs.Outcome.{number_of}
 use Rattle.levels.specs.Answers.{level_outcome}
 use Rattle.levels.specs.Levels.{inter_answer}
 use Rattle.levels.specs.declared.config.FrameFilterConfig.{FrameFilterConfig}

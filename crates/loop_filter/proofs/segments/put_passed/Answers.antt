@@ -1,4 +1,3 @@
-use borrow.Author.Rules.{rules}
 use mathlib.Core.Path.{refl, sym, ap}
 use Rattle.arithmetic.specs.Outcome.{number_of}
 use Rattle.kernels.specs.Answers.{kernel_outcome}

@@ -1,8 +1,6 @@
-use borrow.Author.Rules.{rules}
 use mathlib.Core.Path.{refl, sym, ap, ◌∙◌}
-use lib.IntN.{ℤ}
 use mir.Syntax.{w32}
-use Rattle.arithmetic.specs.Outcome.{Outcome, number_of}
+use Rattle.arithmetic.specs.Outcome.{number_of}
 use Rattle.kernels.specs.Answers.{adjust_outcome}
 use Rattle.arithmetic.proofs.Ranges as R
 use Rattle.loop_filter.specs.Returned.{out_of}

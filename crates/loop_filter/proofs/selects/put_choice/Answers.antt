@@ -1,5 +1,4 @@
 use mathlib.Core.Path.{refl, sym, ap}
-use borrow.Author.Rules.{rules}
 use Rattle.arithmetic.specs.Outcome.{number_of}
 use Rattle.search.specs.Answers.{params_outcome}
 use Rattle.loop_filter.specs.Returned.{out_of}

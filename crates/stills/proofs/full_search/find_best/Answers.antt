@@ -1,4 +1,3 @@
-use borrow.Author.Rules.{rules}
 use Rattle.search.specs.Search.{planes_of_candidate}
 use Rattle.stills.proofs.Pairs.{pairs-none, ended}
 use Rattle.stills.proofs.full_search.find_best.Goals as goal

@@ -1,5 +1,4 @@
 use mathlib.Core.Path.{sym, ap, ◌∙◌}
-use borrow.Author.Rules.{rules}
 use Rattle.planes.specs.Layout.{planes_of}
 use Rattle.planes.specs.Planes.{Planes}
 use Rattle.sums.specs.Answers.{sum_outcome}

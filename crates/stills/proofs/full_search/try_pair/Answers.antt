@@ -1,4 +1,3 @@
-use borrow.Author.Rules.{rules}
 use Rattle.planes.specs.Layout.{planes_of}
 use Rattle.sums.specs.Bytes.{BytePlanes}
 use Rattle.search.specs.Search.{planes_of_candidate}

@@ -1,14 +1,7 @@
-use mathlib.Core.Path.{◌≡◌, refl, ◌∙◌}
-use Prim.Native.Nat.{◌-◌, ◌≤◌}
+use mathlib.Core.Path.{refl, ◌∙◌}
 use native.Mathlib.Omega.{arith}
-use Rattle.planes.specs.Layout.{grid_of, planes_of}
-use Rattle.planes.specs.Planes.{luma, chroma_u, chroma_v}
-use Rattle.scratch.specs.EitherPass.{pass_of}
-use Rattle.scratch.specs.Private.Alike.{Alike}
-use Rattle.scratch.proofs.AlikeLaws.{alike_self, alike-copy, alike_then}
-use Rattle.search.specs.Search.{score, planes_of_candidate, setup_call}
-use Rattle.stills.specs.FullSearch.{after_pairs}
-use Rattle.stills.specs.Private.FullCode.{best_of}
+use Rattle.scratch.proofs.AlikeLaws.{alike-copy, alike_then}
+use Rattle.search.specs.Search.{score, planes_of_candidate}
 use Rattle.stills.proofs.Pairs.{pairs-more, pairs_end}
 use Rattle.stills.proofs.full_search.try_pairs.Goals as goal
 

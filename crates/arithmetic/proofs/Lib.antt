@@ -4,3 +4,5 @@ pub mod Ranges
 pub mod Shifts
 -- Lists whose entries follow a rule, and arrays that a loop fills.
 pub mod Tables
+-- The limits as the methods of std compute them.
+pub mod Limited

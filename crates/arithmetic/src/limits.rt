@@ -1,5 +1,5 @@
 // RFC 6386, section 15.4: the limits of one macroblock.
-ghost use Rattle.std.specs.Prelude.{◌≡◌, ◌-◌, min};
+ghost use Rattle.std.specs.Prelude.{◌≡◌};
 ghost use Rattle.arithmetic.specs.Limits as spec;
 
 #[derive(Clone, Copy)]
@@ -10,43 +10,22 @@ pub struct LoopFilterParams {
     pub sub_bedge_limit: u8,
 }
 
-fn at_least_one(n: u8) -> u8
-    ensures { result ≡ spec.at_least_one n }
-{
-    if n == 0 { 1 } else { n }
-}
-
-fn lesser(a: u8, b: u8) -> u8
-    ensures { result ≡ min a b }
-{
-    if a <= b { a } else { b }
-}
-
-fn at_most_255(n: u16) -> u8
-    ensures { result ≡ min n 255 }
-{
-    if n <= 255 { n as u8 } else { 255 }
-}
-
-// 9 - sharpness, never below 0.
-fn sharpness_cap(sharpness: u8) -> u8
-    ensures { result ≡ 9 - sharpness }
-{
-    if sharpness < 9 { 9 - sharpness } else { 0 }
-}
-
+#[tactic(auto, unfolding(crate::specs::Limits::interior_limit, crate::specs::Limits::at_least_one))]
 pub fn interior_limit(level: u8, sharpness: u8) -> u8
     ensures { result ≡ spec.interior_limit level sharpness }
 {
     if sharpness == 0 {
-        return at_least_one(level);
+        return level.max(1);
     }
-    if sharpness > 4 {
-        return at_least_one(lesser(level >> 2, sharpness_cap(sharpness)));
-    }
-    at_least_one(lesser(level >> 1, sharpness_cap(sharpness)))
+    let shifted = if sharpness > 4 {
+        level >> 2
+    } else {
+        level >> 1
+    };
+    shifted.min(9u8.saturating_sub(sharpness)).max(1)
 }
 
+#[tactic(auto, unfolding(crate::specs::Limits::hev_threshold))]
 fn hev_threshold(level: u8, key: bool) -> u8
     ensures { result ≡ spec.hev_threshold level key }
 {
@@ -80,12 +59,13 @@ impl LoopFilterParams {
     pub const MAX_LEVEL: u8 = 63;
 
     // The four limits, from an interior limit that is given.
+    #[tactic(auto, unfolding(crate::specs::Limits::with_interior, crate::specs::Limits::mbedge_limit, crate::specs::Limits::sub_bedge_limit))]
     pub fn with_interior(level: u8, interior: u8, key: bool) -> LoopFilterParams
         ensures { result ≡ spec.with_interior level interior key }
     {
         let threshold = hev_threshold(level, key);
-        let macroblock = at_most_255((level as u16 + 2) * 2 + interior as u16);
-        let inner = at_most_255(level as u16 * 2 + interior as u16);
+        let macroblock = ((level as u16 + 2) * 2 + interior as u16).min(255) as u8;
+        let inner = (level as u16 * 2 + interior as u16).min(255) as u8;
         LoopFilterParams {
             interior_limit: interior,
             hev_threshold: threshold,
@@ -94,6 +74,7 @@ impl LoopFilterParams {
         }
     }
 
+    #[tactic(auto, unfolding(crate::specs::Limits::derive))]
     pub fn derive(loop_filter_level: u8, sharpness_level: u8, key_frame: bool) -> LoopFilterParams
         ensures { result ≡ spec.derive loop_filter_level sharpness_level key_frame }
     {

@@ -3,23 +3,19 @@ ghost use Rattle.std.specs.Prelude.{◌≡◌, cond, pos, ◌+ℤ◌, ◌*ℤ◌
 ghost use Rattle.arithmetic.specs.Numbers as spec;
 
 // c: limits to -128..127.
+#[tactic(auto, using(crate::proofs::Limited::byte_limits))]
 pub fn clamp(v: i16) -> i16
     ensures { result ≡ spec.clamp v }
 {
-    if v < -128 {
-        -128
-    } else if v < 128 {
-        v
-    } else {
-        127
-    }
+    v.clamp(-128, 127)
 }
 
 // With a at most 123 the sums a + 3 and a + 4 need no c for their shift by 3.
+#[tactic(auto, using(crate::proofs::Limited::limit_123))]
 pub fn at_most_123(v: i16) -> i16
     ensures { result ≡ spec.at_most123 v }
 {
-    if v < 123 { v } else { 123 }
+    v.min(123)
 }
 
 // One of two numbers, without a branch.
@@ -30,16 +26,11 @@ pub fn pick(yes: bool, a: i16, b: i16) -> i16
 }
 
 // Changes no difference of two samples.
+#[tactic(auto, using(crate::proofs::Limited::limits_255))]
 fn within_255(v: i16) -> i16
     ensures { result ≡ spec.within255 v }
 {
-    if v < -255 {
-        -255
-    } else if v < 256 {
-        v
-    } else {
-        255
-    }
+    v.clamp(-255, 255)
 }
 
 // a of common_adjust before it is divided, where o is p1 - q1 and d is q0 - p0. From 85 on 3 * d settles the result alone, so a limit of d

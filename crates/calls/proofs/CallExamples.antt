@@ -16,7 +16,8 @@ use Rattle.planes.specs.Edges.{first_row, first_column, edge_tap, filter_edge, b
 use Rattle.planes.specs.Macroblock.{only, edge_at, edges_at, filter_edges, filter_macroblock}
 use Rattle.planes.specs.Reach.{Box, Near, Reach, Own}
 use Rattle.planes.specs.GridRefusals.{zero_grid, too_large, bad_strides, needed, short_planes, after_grid}
-use Rattle.calls.specs.Entries.{KeyCarried, segment_byte, key_record, no_record, entry_of, key_entry, inter_entry, length_is_not, key_lengths_wrong, inter_lengths_wrong, any_of, key_bad_entry, inter_bad_entry}
+use Rattle.calls.specs.Entries.{KeyCarried, segment_byte, key_record, no_record, entry_of, key_entry, inter_entry, length_is_not, key_lengths_wrong, inter_lengths_wrong, key_bad_entry, inter_bad_entry}
+use Rattle.std.specs.List.{list_any}
 use Rattle.calls.specs.Pass.{Pass, Call, key_pass, inter_pass, is_b, inside_of, plan_with, plan_at, key_plan, inter_plan, refusal, step, count, next, answer, planes_after}
 use Rattle.calls.specs.Calls.{LastLeft, AfterRefused, Carries, after_accepted, Calls, counts, allowances, done, StandIn, FurtherCalls}
 use Rattle.calls.specs.FinalRows.{rows_final, final_rows}
@@ -114,7 +115,7 @@ unfolding clamp u2s s2u shr at_least_one interior_limit hev_threshold mbedge_lim
     levels.clamp_level levels.segment_number levels.level_in_segment levels.base_level levels.segment_level levels.ref_delta levels.intra_mode_delta levels.inter_mode_delta levels.mode_delta
     levels.adjusted_level levels.inter_level levels.key_level levels.level_of levels.key_level_of
     steps first_row first_column edge_tap filter_edge borders insides places only edge_at edges_at filter_edges filter_macroblock
-    zero_grid too_large bad_strides needed short_planes after_grid entry_of key_entry inter_entry segment_byte key_record no_record length_is_not key_lengths_wrong inter_lengths_wrong any_of key_bad_entry inter_bad_entry
+    zero_grid too_large bad_strides needed short_planes after_grid entry_of key_entry inter_entry segment_byte key_record no_record length_is_not key_lengths_wrong inter_lengths_wrong key_bad_entry inter_bad_entry
     is_b inside_of plan_with plan_at key_plan inter_plan refusal step count next answer planes_after
     rows_final final_rows Reach Near Box Carries after_accepted counts allowances done
 shown = record {

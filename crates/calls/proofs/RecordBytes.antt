@@ -15,7 +15,8 @@ use Rattle.planes.specs.Steps.{steps}
 use Rattle.planes.specs.Planes.{Planes, Grid, macroblocks}
 use Rattle.planes.specs.Macroblock.{filter_macroblock}
 use Rattle.planes.specs.GridRefusals.{zero_grid, too_large, bad_strides, short_planes, after_grid}
-use Rattle.calls.specs.Entries.{entry_of, key_entry, inter_entry, segment_byte, key_record, inter_record, no_record, length_is_not, key_lengths_wrong, inter_lengths_wrong, any_of, key_bad_entry, inter_bad_entry, KeyCarried, InterCarried}
+use Rattle.calls.specs.Entries.{entry_of, key_entry, inter_entry, segment_byte, key_record, inter_record, no_record, length_is_not, key_lengths_wrong, inter_lengths_wrong, key_bad_entry, inter_bad_entry, KeyCarried, InterCarried}
+use Rattle.std.specs.List.{list_any}
 use Rattle.calls.specs.Pass.{Pass, key_pass, inter_pass, Call, refusal, step, count, next, answer, planes_after}
 use Rattle.calls.specs.PassCalls.{key_call, inter_call, key_records_call, inter_records_call}
 use Rattle.calls.specs.RecordBytes.{flag_byte, key_bytes, inter_bytes}
@@ -56,8 +57,7 @@ unfolding flag_byte
 flag-byte true = refl
 flag-byte false = refl
 
-none-bad : {X : Type 0} (bad : ℕ → Bool) (f : X → ℕ) → ((x : X) → bad (f x) ≡ false) → (l : List X) → any_of bad (map f l) ≡ false
-unfolding any_of
+none-bad : {X : Type 0} (bad : ℕ → Bool) (f : X → ℕ) → ((x : X) → bad (f x) ≡ false) → (l : List X) → list_any bad (map f l) ≡ false
 none-bad bad f h [] = refl
 none-bad bad f h (x ∷ xs) = rw (h x, none-bad bad f h xs)
 
@@ -94,7 +94,7 @@ module _ (rs : List MacroblockModes) where
       (or-same5 (length_is_not n rs))
 
   -- 6
-  modes-fine : any_of bad_mode (map (λ r. mode_byte r.y_mode) rs) ≡ false
+  modes-fine : list_any bad_mode (map (λ r. mode_byte r.y_mode) rs) ≡ false
   modes-fine = none-bad bad_mode (λ r. mode_byte r.y_mode) (λ r. (mode-byte r.y_mode).1) rs
 
   key-fine : false ≡ key_bad_entry (key_bytes rs)

@@ -1,14 +1,11 @@
 -- What a call carries for its macroblocks: byte lists, one entry a macroblock, or a list of records (document 01, Option lists).
-use Rattle.std.specs.Prelude.{Bool, true, false, not, ◌||◌, List, [], ◌∷◌, ℕ, min, eqb, length, get_or}
+use Rattle.std.specs.Prelude.{Bool, true, false, not, ◌||◌, List, [], ◌∷◌, ℕ, min, eqb, length, get_or, Option, None, Some}
+use Rattle.std.specs.List.{list_any}
 use Rattle.levels.specs.Encodings.{mode_of, reference_of, inter_mode_of, bad_mode, bad_reference, bad_inter_mode}
 use Rattle.levels.specs.declared.modes.IntraYMode.{IntraYMode}
 use Rattle.levels.specs.declared.modes.IntraYMode.TheVariants as mode
-use Rattle.levels.specs.declared.modes.MaybeRef.{MaybeRef}
-use Rattle.levels.specs.declared.modes.MaybeRef.TheVariants as reference
-use Rattle.levels.specs.declared.modes.MaybeInter.{MaybeInter}
-use Rattle.levels.specs.declared.modes.MaybeInter.TheVariants as inter
-use Rattle.calls.specs.declared.records.MaybeSegment.{MaybeSegment}
-use Rattle.calls.specs.declared.records.MaybeSegment.TheVariants as segment
+use Rattle.levels.specs.declared.modes.RefFrame.{RefFrame}
+use Rattle.levels.specs.declared.modes.InterMode.{InterMode}
 use Rattle.calls.specs.declared.records.MacroblockModes.{MacroblockModes}
 
 -- Document 01's entry of a macroblock, as what it says: a segment above 3 says 3, and any flag but 0 says that there are coefficients.
@@ -16,8 +13,8 @@ pub record Entry : Type 0 where
   pub mode : IntraYMode
   pub segment : ℕ
   pub coefficients : Bool
-  pub reference : MaybeRef
-  pub inter_mode : MaybeInter
+  pub reference : Option RefFrame
+  pub inter_mode : Option InterMode
 
 -- the bytes of one macroblock
 unfoldable pub entry_of : (mode segment flag reference inter_mode : ℕ) → Entry
@@ -46,9 +43,9 @@ inter_entry l m =
 
 -- ---- a list of records
 
-unfoldable pub segment_byte : MaybeSegment → ℕ
-segment_byte segment.Absent = 0
-segment_byte (segment.Present n) = n
+unfoldable pub segment_byte : Option ℕ → ℕ
+segment_byte None = 0
+segment_byte (Some n) = n
 
 -- what a record says to the inter pass, and to the key pass, which ignores reference and inter mode
 unfoldable pub inter_record : MacroblockModes → Entry
@@ -67,14 +64,14 @@ key_record r =
       mode = r.y_mode;
       segment = min (segment_byte r.segment_id) 3;
       coefficients = r.has_coeffs;
-      reference = reference.Absent;
-      inter_mode = inter.Absent;
+      reference = None;
+      inter_mode = None;
     }
 
 -- past a list's end: no pass looks there
 unfoldable pub no_record : MacroblockModes
 no_record =
-    record { y_mode = mode.Dc; segment_id = segment.Absent; has_coeffs = false; ref_frame = reference.Absent; inter_mode = inter.Absent }
+    record { y_mode = mode.Dc; segment_id = None; has_coeffs = false; ref_frame = None; inter_mode = None }
 
 -- ---- refusals 5 and 6
 
@@ -90,15 +87,11 @@ inter_lengths_wrong l n =
     length_is_not n l.modes || length_is_not n l.segments || length_is_not n l.flags || length_is_not n l.references || length_is_not n l.inter_modes
 
 -- 6: some byte of a whole list stands for no case
-unfoldable pub any_of : (bad : ℕ → Bool) → List ℕ → Bool
-any_of bad [] = false
-any_of bad (b ∷ bs) = bad b || any_of bad bs
-
 unfoldable pub key_bad_entry : KeyLists → Bool
-key_bad_entry l = any_of bad_mode l.modes
+key_bad_entry l = list_any bad_mode l.modes
 
 unfoldable pub inter_bad_entry : InterLists → Bool
-inter_bad_entry l = any_of bad_mode l.modes || any_of bad_reference l.references || any_of bad_inter_mode l.inter_modes
+inter_bad_entry l = list_any bad_mode l.modes || list_any bad_reference l.references || list_any bad_inter_mode l.inter_modes
 
 -- ---- what the calls of each pass carry
 

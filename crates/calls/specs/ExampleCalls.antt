@@ -1,13 +1,10 @@
 -- The calls of the computed lists: three macroblocks side by side in the key pass, with the simple filter; two one above the other in the inter pass, with the normal filter.
 -- The planes named are those before and after each macroblock; `CallExamples` computes them.
-use Rattle.std.specs.Prelude.{Bool, true, false, List, [], ◌∷◌, ◌++◌, ℕ, zero, suc, pos, replicate, set, take}
+use Rattle.std.specs.Prelude.{Bool, true, false, List, [], ◌∷◌, ◌++◌, ℕ, zero, suc, pos, replicate, set, take, None}
 use Rattle.levels.specs.declared.config.FrameFilterConfig.{FrameFilterConfig}
 use Rattle.levels.specs.declared.modes.IntraYMode.{IntraYMode}
 use Rattle.levels.specs.declared.modes.IntraYMode.TheVariants as mode
-use Rattle.levels.specs.declared.modes.MaybeRef.TheVariants as reference
-use Rattle.levels.specs.declared.modes.MaybeInter.TheVariants as inter
 use Rattle.calls.specs.declared.records.MacroblockModes.{MacroblockModes}
-use Rattle.calls.specs.declared.records.MaybeSegment.TheVariants as segment
 use Rattle.planes.specs.Planes.{luma, Planes, Grid, Sample}
 use Rattle.calls.specs.Entries.{KeyLists, InterLists, KeyCarried, InterCarried, key_entry, inter_entry}
 use Rattle.calls.specs.Pass.{Call, key_pass, inter_pass}
@@ -101,7 +98,7 @@ abbrev pub key_example_records : List MacroblockModes
 key_example_records = of mode.B ∷ of mode.Dc ∷ of mode.Dc ∷ []
   where
     of : IntraYMode → MacroblockModes
-    of m = record { y_mode = m; segment_id = segment.Absent; has_coeffs = false; ref_frame = reference.Absent; inter_mode = inter.Absent }
+    of m = record { y_mode = m; segment_id = None; has_coeffs = false; ref_frame = None; inter_mode = None }
 
 abbrev pub key_records_example_call : Planes → (start allowance : ℕ) → Call key_pass
 key_records_example_call p start allowance = record { grid = key_grid; settings = settings true true; carried = KeyCarried.records key_example_records; lent = p; start = start; allowance = allowance }

@@ -1,13 +1,13 @@
 -- The leading rows of samples that are final when a pass is to go on from `start`, for callers who send rows down. No paper has this call.
-use Rattle.std.specs.Prelude.{◌≡◌, cond, ℕ, ◌-◌, ◌*◌, ◌≤◌, ◌<◌, eqb, ltb}
+use Rattle.std.specs.Prelude.{◌≡◌, cond, ℕ, ◌-◌, ◌*◌, ◌≤◌, ◌<◌, eqb, ltb, Result, Ok, Err}
 use Rattle.arithmetic.specs.Outcome.{Outcome, gives, refuses}
 use Rattle.planes.specs.Steps.{Clear}
 use Rattle.planes.specs.Planes.{Plane, luma, chroma_u, chroma_v, Grid, side, Sample, row_of, macroblocks, grid_row, StridesHold}
 use Rattle.planes.specs.Reach.{Reach, InGrid}
 use Rattle.planes.specs.GridRefusals.{zero_grid, too_large}
 use Rattle.calls.specs.Answers.{pass_refusal_number}
-use Rattle.calls.specs.declared.final_rows.FinalRowsAnswer.{FinalRowsAnswer}
-use Rattle.calls.specs.declared.final_rows.FinalRowsAnswer.TheVariants as answers
+use Rattle.calls.specs.declared.answers.PassRefusal.{PassRefusal}
+use Rattle.calls.specs.declared.final_rows.FinalRows.{FinalRows}
 
 -- so many rows, counted in samples, of luma and of each chroma plane
 pub record Rows : Type 0 where
@@ -36,9 +36,9 @@ final_rows g start =
     (gives (record { luma = rows_final g luma start; chroma = rows_final g chroma_u start }))))
 
 -- what `final_rows` answers, in document 01's numbers
-unfoldable pub final_rows_outcome : FinalRowsAnswer → Outcome Rows
-final_rows_outcome (answers.FinalRows y uv) = gives (record { luma = y; chroma = uv })
-final_rows_outcome (answers.Refused r) = refuses (pass_refusal_number r)
+abbrev pub final_rows_outcome : Result FinalRows PassRefusal → Outcome Rows
+final_rows_outcome (Ok rows) = gives (record { luma = rows.«luma»; chroma = rows.«chroma» })
+final_rows_outcome (Err r) = refuses (pass_refusal_number r)
 
 -- ---- what the rows are
 

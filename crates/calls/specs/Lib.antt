@@ -8,6 +8,7 @@ pub mod SentRows
 -- how the arguments and the answer of a function are read as a call and its outcome
 pub mod PassCalls
 pub mod Answers
+pub mod GridToPass
 pub mod RecordBytes
 -- passes and lists of calls, computed
 pub mod SimpleExample

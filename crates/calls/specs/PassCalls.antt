@@ -4,7 +4,7 @@ use Rattle.levels.specs.declared.config.FrameFilterConfig.{FrameFilterConfig}
 use Rattle.planes.specs.Planes.{Planes}
 use Rattle.calls.specs.Entries.{KeyLists, InterLists, KeyCarried, InterCarried}
 use Rattle.planes.specs.Layout.{grid_of}
-use Rattle.calls.specs.Pass.{key_pass, inter_pass, Call}
+use Rattle.calls.specs.Pass.{Pass, key_pass, inter_pass, Call}
 use Rattle.planes.specs.declared.layout.PlaneLayout.{PlaneLayout}
 use Rattle.calls.specs.declared.records.MacroblockModes.{MacroblockModes}
 
@@ -31,3 +31,8 @@ key_records_call p layout rs config start allowance =
 abbrev pub inter_records_call : Planes → PlaneLayout → List MacroblockModes → FrameFilterConfig → (start allowance : ℕ) → Call inter_pass
 inter_records_call p layout rs config start allowance =
     record { grid = grid_of layout; settings = config; carried = InterCarried.records rs; lent = p; start = start; allowance = allowance }
+
+-- of any pass, whatever its entries are lent as
+abbrev pub call_of : (W : Pass) → PlaneLayout → W.Carried → FrameFilterConfig → Planes → (start allowance : ℕ) → Call W
+call_of W layout carried config p start allowance =
+    record { grid = grid_of layout; settings = config; carried = carried; lent = p; start = start; allowance = allowance }

@@ -1,58 +1,46 @@
 // The leading rows of samples that are final while a pass has still macroblocks to do.
 ghost use Rattle.std.specs.Prelude.{◌≡◌};
 ghost use Rattle.planes.specs.Layout.{grid_of};
-ghost use Rattle.calls.specs.FinalRows.{rows_above, final_rows, final_rows_outcome};
+ghost use Rattle.calls.specs.FinalRows.{final_rows, final_rows_outcome};
 
 use crate::answers::PassRefusal;
 use planes::layout::PlaneLayout;
 
-// Leading rows that are final, in luma and in each chroma plane; or refusal 1, or 7.
-#[derive(Clone, Copy)]
-pub enum FinalRowsAnswer {
-    FinalRows { luma: usize, chroma: usize },
-    Refused(PassRefusal),
+// Leading rows that are final, in luma and in each chroma plane.
+#[derive(Clone, Copy, Debug, PartialEq, Eq)]
+pub struct FinalRows {
+    pub luma: usize,
+    pub chroma: usize,
 }
 
-// A macroblock can reach 3 rows above its own.
-fn above_reach(top: usize) -> usize
-    ensures { result ≡ rows_above top }
-{
-    if top < 3 { 0 } else { top - 3 }
-}
+// A macroblock can reach this many rows above its own.
+const REACH: usize = 3;
 
-// `start` is the start to go on from. The strides are not read.
-pub fn final_rows(layout: PlaneLayout, start: usize) -> FinalRowsAnswer
+// `start` is the start to go on from. The strides are not read. Refused with 1, or 7.
+#[tactic(auto, unfolding(crate::specs::FinalRows::final_rows, crate::specs::FinalRows::rows_final, crate::specs::Answers::pass_refusal_number), using(planes::proofs::GridLaws::small, planes::proofs::GridLaws::grid_fits))]
+pub fn final_rows(layout: PlaneLayout, start: usize) -> Result<FinalRows, PassRefusal>
     ensures { final_rows_outcome result ≡ final_rows (grid_of layout) start }
 {
-    let columns = layout.mb_cols;
     let rows = layout.mb_rows;
-    if columns == 0 {
-        return FinalRowsAnswer::FinalRows { luma: 0, chroma: 0 };
+    if layout.is_zero() {
+        return Ok(FinalRows { luma: 0, chroma: 0 });
     }
-    if rows == 0 {
-        return FinalRowsAnswer::FinalRows { luma: 0, chroma: 0 };
+    if layout.is_too_large() {
+        return Err(PassRefusal::TooLarge);
     }
-    if columns > 1024 {
-        return FinalRowsAnswer::Refused(PassRefusal::TooLarge);
-    }
-    if rows > 1024 {
-        return FinalRowsAnswer::Refused(PassRefusal::TooLarge);
-    }
-    let n = columns * rows;
+    let n = layout.mb_cols * rows;
     if start > n {
-        return FinalRowsAnswer::Refused(PassRefusal::StartBeyond);
+        return Err(PassRefusal::StartBeyond);
     }
     if start == n {
-        let luma = 16 * rows;
-        let chroma = 8 * rows;
-        return FinalRowsAnswer::FinalRows {
-            luma: luma,
-            chroma: chroma,
-        };
+        return Ok(FinalRows {
+            luma: 16 * rows,
+            chroma: 8 * rows,
+        });
     }
-    let row = start / columns;
-    FinalRowsAnswer::FinalRows {
-        luma: above_reach(16 * row),
-        chroma: above_reach(8 * row),
-    }
+    let row = start / layout.mb_cols;
+    Ok(FinalRows {
+        luma: (16 * row).saturating_sub(REACH),
+        chroma: (8 * row).saturating_sub(REACH),
+    })
 }

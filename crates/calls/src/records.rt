@@ -1,18 +1,12 @@
 // Macroblock records: what document 01's byte lists say of one macroblock, in the Rust's enum cases.
-use levels::modes::{IntraYMode, MaybeInter, MaybeRef};
+use levels::modes::{InterMode, IntraYMode, RefFrame};
 
-// A segment, or none. A segment above 3 counts as 3, and none as 0.
-#[derive(Clone, Copy)]
-pub enum MaybeSegment {
-    Absent,
-    Present(u8),
-}
-
-#[derive(Clone, Copy)]
+#[derive(Clone, Copy, Debug, PartialEq, Eq)]
 pub struct MacroblockModes {
     pub y_mode: IntraYMode,
-    pub segment_id: MaybeSegment,
+    // A segment above 3 counts as 3, and none as 0.
+    pub segment_id: Option<u8>,
     pub has_coeffs: bool,
-    pub ref_frame: MaybeRef,
-    pub inter_mode: MaybeInter,
+    pub ref_frame: Option<RefFrame>,
+    pub inter_mode: Option<InterMode>,
 }

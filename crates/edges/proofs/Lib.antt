@@ -1,6 +1,7 @@
 -- What several proofs share.
 pub mod TapNumbers
 pub mod TapPositions
+pub mod NormalKinds
 pub mod TapsFirst
 pub mod RowStores
 pub mod ArrayRows

@@ -2,18 +2,21 @@
 use mathlib.Core.Path.{◌≡◌, refl, sym, ap, subst, ◌∙◌}
 use mathlib.Core.Bool.{Bool, true, false, cond, ◌&&◌, ◌||◌}
 use Prim.Native.Nat.{ℕ, suc, ◌+◌, ◌*◌, ◌/◌, ◌≤◌, ◌<◌, max, suc-le-suc}
-use native.Mathlib.Nat.{zero-add, le-max_left, le-max_right, max-le, max-eq_left, max-eq_right, le_of_lt, le_of_suc-le-suc, not-suc-le-zero, lt_of_lt_of_le}
+use native.Mathlib.Nat.{le-max_left, le-max_right, max-le, max-eq_left, max-eq_right, le_of_lt, le_of_suc-le-suc, lt_of_lt_of_le}
 use native.Mathlib.Omega.{arith}
-use lib.Dec.{T, leb, ltb, leb→le, le→leb}
-use lib.IntN.{ℤ, pos, negsuc, ◌+ℤ◌, ◌-ℤ◌, nat_abs, +ℤ-neg_ℤ_cancel, -ℤ-+ℤ_cancel}
-use lib.Signed.{mag, lt_z, nat_abs-le, pos-nat_abs}
+use lib.Dec.{T, leb, ltb, leb→le, le→leb, ltb→lt, lit<}
+use lib.IntN.{ℤ, pos, ◌+ℤ◌, ◌-ℤ◌, nat_abs, +ℤ-neg_ℤ_cancel, -ℤ-+ℤ_cancel}
+use lib.Signed.{mag, nat_abs-le, pos-nat_abs}
 use borrow.Author.Tests.{ltb-true, ltb-false, le-ltb, lt-ltb}
 use mir.Syntax.{w16}
 use mir.Val.{to_z, of_z}
+use Rattle.std.specs.Int.{int_max}
 use Rattle.arithmetic.specs.Numbers.{clamp, u2s, s2u, shr}
-use Rattle.kernels.specs.Kernels.{apart, gain_of, loss_of, part}
+use Rattle.kernels.specs.Kernels.{apart, filter_value, gain_of, loss_of, part}
 use Rattle.arithmetic.proofs.Ranges as R
-use Rattle.edges.specs.Private.Runs.{larger}
+use Rattle.edges.specs.declared.position.FourTaps.{FourTaps}
+use Rattle.edges.specs.declared.position.EightTaps.{EightTaps}
+use Rattle.edges.specs.Private.Runs.{SignedFour, SignedEight, variance, roughness, value_of}
 
 -- ---- a tap in a local
 
@@ -59,17 +62,6 @@ pub apart-most : (a b : ℤ) → mag a < 128 → mag b < 128 → apart a b < 257
 unfolding apart
 apart-most a b h k = omega (arith, nat_abs-le (a -ℤ b) (R.in-sub a b h k))
 
-pub abs-below : (d : ℤ) → lt_z d (pos 0) ≡ true → pos 0 -ℤ d ≡ pos (nat_abs d)
-abs-below (pos n) e = absurd (not-suc-le-zero (ltb-true n 0 e))
-abs-below (negsuc n) e = ap pos (zero-add (suc n))
-
-pub abs-above : (d : ℤ) → lt_z d (pos 0) ≡ false → d ≡ pos (nat_abs d)
-abs-above (pos n) e = refl
-abs-above (negsuc n) e = absurd (false-true e)
-  where
-    false-true : true ≡ false → ⊥
-    false-true p = let z : ◌≡◌ {A = ℕ} 0 1 = cc in omega arith
-
 -- the result of `distance`
 pub dist-is : (a b : ℤ) {r : ℤ} → mag a < 128 → mag b < 128 → r ≡ pos (apart (to_z w16 (of_z w16 a)) (to_z w16 (of_z w16 b))) → R.Is w16 (of_z w16 r) (pos (apart a b)) 257
 dist-is a b h k e = known tt (e ∙ (λ i. pos (apart (back a h i) (back b k i)))) (apart-most a b h k)
@@ -82,29 +74,20 @@ same_test true false f g = absurd (f tt)
 same_test false true f g = absurd (g tt)
 same_test false false f g = refl
 
-pub larger-is : (a b : ℕ) → larger (pos a) (pos b) ≡ pos (max a b)
-unfolding larger
-larger-is a b = by (ltb a b) refl
+pub max-is : (a b : ℕ) → int_max (pos a) (pos b) ≡ pos (max a b)
+max-is a b = by (ltb b a) refl
   where
-    by : (t : Bool) → ltb a b ≡ t → cond (ltb a b) (pos b) (pos a) ≡ pos (max a b)
-    by true e = rw (e, max-eq_right (le_of_lt (ltb-true a b e)))
-    by false e = rw (e, max-eq_left (ltb-false a b e))
-
-pub larger-yes : (a b : ℤ) → lt_z a b ≡ true → larger a b ≡ b
-unfolding larger
-larger-yes a b e = rw e
-
-pub larger-no : (a b : ℤ) → lt_z a b ≡ false → larger a b ≡ a
-unfolding larger
-larger-no a b e = rw e
+    by : (t : Bool) → ltb b a ≡ t → cond (ltb b a) (pos a) (pos b) ≡ pos (max a b)
+    by true e = rw (e, max-eq_left (le_of_lt (ltb-true b a e)))
+    by false e = rw (e, max-eq_right (ltb-false b a e))
 
 pub max-below : (a b n : ℕ) → a < n → b < n → max a b < n
 max-below a b Prim.Native.Nat.zero h k = elim h [ ]
 max-below a b (suc n) h k = suc-le-suc (max-le (le_of_suc-le-suc h) (le_of_suc-le-suc k))
 
--- the result of `larger` of two such distances
-pub larger-of : {m n x y : ℕ} {r : ℤ} → R.Is w16 m (pos x) 257 → R.Is w16 n (pos y) 257 → r ≡ larger (to_z w16 m) (to_z w16 n) → R.Is w16 (of_z w16 r) (pos (max x y)) 257
-larger-of {m} {n} {x} {y} p q e = known tt (e ∙ (λ i. larger (p.val i) (q.val i)) ∙ larger-is x y) (max-below x y 257 p.inr q.inr)
+-- the larger of two such distances
+pub max-of : {m n x y : ℕ} {r : ℤ} → R.Is w16 m (pos x) 257 → R.Is w16 n (pos y) 257 → r ≡ int_max (to_z w16 m) (to_z w16 n) → R.Is w16 (of_z w16 r) (pos (max x y)) 257
+max-of {m} {n} {x} {y} p q e = known tt (e ∙ (λ i. int_max (p.val i) (q.val i)) ∙ max-is x y) (max-below x y 257 p.inr q.inr)
 
 both : (a b : Bool) → T a → T b → T (a && b)
 both true b s t = t
@@ -180,9 +163,45 @@ within {n} {z} {A} p = subst (λ (v : ℤ). mag v < A) (sym p.val) p.inr
 pub within-256 : {n : ℕ} {z : ℤ} {A : ℕ} → R.Is w16 n z A → T (leb A 256) → mag (to_z w16 n) < 256
 within-256 {A} p t = lt_of_lt_of_le (within p) (leb→le A 256 t)
 
+-- ---- what a call gives of such a local
+
+module _ {n A : ℕ} {z r : ℤ} (p : R.Is w16 n z A) where
+  pub gain-given : r ≡ gain_of (to_z w16 n) → R.Is w16 (of_z w16 r) (gain_of z) 128
+  gain-given e = known tt (e ∙ ap gain_of p.val) (gain-in z)
+
+  pub loss-given : r ≡ loss_of (to_z w16 n) → R.Is w16 (of_z w16 r) (loss_of z) 128
+  loss-given e = known tt (e ∙ ap loss_of p.val) (loss-in z)
+
+  pub part-given : (k : ℕ) → r ≡ part k (to_z w16 n) → R.Is w16 (of_z w16 r) (part k z) 128
+  part-given k e = known tt (e ∙ ap (part k) p.val) (part_in k z)
+
+  -- 0 or the number, as a test chooses
+  pub zero-or : (b : Bool) → R.Room w16 A → T (ltb 0 A) → r ≡ cond b (pos 0) (to_z w16 n) → R.Is w16 (of_z w16 r) (cond b (pos 0) z) A
+  zero-or b room t e = known room (e ∙ ap (cond b (pos 0)) p.val) (R.cond-in b (pos 0) z (ltb→lt 0 A t) p.inr)
+
+  pub or-zero : (b : Bool) → R.Room w16 A → T (ltb 0 A) → r ≡ cond b (to_z w16 n) (pos 0) → R.Is w16 (of_z w16 r) (cond b z (pos 0)) A
+  or-zero b room t e = known room (e ∙ ap (λ (v : ℤ). cond b v (pos 0)) p.val) (R.cond-in b z (pos 0) p.inr (ltb→lt 0 A t))
+
 -- the results of `raised` and `lowered`
 pub gained : (p : ℤ) {n A : ℕ} {a r : ℤ} → mag p < 128 → R.Is w16 n a A → r ≡ clamp (to_z w16 (of_z w16 p) +ℤ to_z w16 n) → to_z w16 (of_z w16 r) ≡ clamp (p +ℤ a)
 gained p h q e = (known {A = 128} tt (e ∙ (λ i. clamp (back p h i +ℤ q.val i))) (R.clamp-in _)).val
 
 pub lost : (p : ℤ) {n A : ℕ} {a r : ℤ} → mag p < 128 → R.Is w16 n a A → r ≡ clamp (to_z w16 (of_z w16 p) -ℤ to_z w16 n) → to_z w16 (of_z w16 r) ≡ clamp (p -ℤ a)
 lost p h q e = (known {A = 128} tt (e ∙ (λ i. clamp (back p h i -ℤ q.val i))) (R.clamp-in _)).val
+
+-- ---- of taps
+
+pub variance-most : (s : FourTaps) → SignedFour s → variance s < 257
+variance-most s h = max-below _ _ 257 (apart-most s.p1 s.p0 h.p1-in h.p0-in) (apart-most s.q1 s.q0 h.q1-in h.q0-in)
+
+pub roughness-most : (s : EightTaps) → SignedEight s → roughness s < 257
+roughness-most s h =
+    max-below _ _ 257 (max-below _ _ 257 (apart-most s.p3 s.p2 h.p3-in h.p2-in) (apart-most s.p2 s.near.p1 h.p2-in h.near-in.p1-in))
+    (max-below _ _ 257 (apart-most s.q3 s.q2 h.q3-in h.q2-in) (apart-most s.q2 s.near.q1 h.q2-in h.near-in.q1-in))
+
+-- what a position moves by: the value that its test lets pass
+pub chosen : {y passes : Bool} {v r : ℤ} (outer : Bool) (s : FourTaps) → y ≡ passes → v ≡ value_of outer s → r ≡ cond y (to_z w16 (of_z w16 v)) (pos 0) → R.Is w16 (of_z w16 r) (cond passes (value_of outer s) (pos 0)) 128
+unfolding filter_value
+chosen {passes = passes} outer s ey ev e =
+    let value = (known {A = 128} tt ev (R.clamp-in _)).val in
+    known tt (e ∙ (λ i. cond (ey i) (value i) (pos 0))) (R.cond-in passes (value_of outer s) (pos 0) (R.clamp-in _) (lit< tt))

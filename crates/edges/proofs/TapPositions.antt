@@ -13,9 +13,11 @@ use Rattle.kernels.specs.Kernels.{edge_value, filter_value, filter_yes, hev, gai
 use Rattle.kernels.specs.Segment.{simple_segment, subblock_filter, mb_filter, smooth}
 use Rattle.arithmetic.proofs.Ranges as R
 use Rattle.kernels.proofs.Apart.{edge-signed}
-use Rattle.edges.specs.declared.run.InnerTaps.{InnerTaps}
-use Rattle.edges.specs.declared.run.EdgeTaps.{EdgeTaps}
-use Rattle.edges.specs.Private.Runs.{inner_taps, edge_taps, widened_taps, softened_taps, SignedEight, SignedFour}
+use Rattle.edges.specs.declared.position.InnerTaps.{InnerTaps}
+use Rattle.edges.specs.declared.position.EdgeTaps.{EdgeTaps}
+use Rattle.edges.specs.declared.position.FourTaps.{FourTaps}
+use Rattle.edges.specs.declared.position.EightTaps.{EightTaps}
+use Rattle.edges.specs.Private.Runs.{inner_taps, edge_taps, widened, softened, SignedEight, SignedFour, SignedSix, simple_passes, normal_passes, high_of, value_of}
 use Rattle.edges.proofs.TapNumbers.{u2s-s2u, again, s2u-byte}
 
 -- ---- a move of 0, and one that is stored
@@ -68,13 +70,20 @@ none a b e f = λ i. e i +ℤ f i
 
 -- ---- on samples
 
+-- samples as taps
+abbrev four_of : (P1 P0 Q0 Q1 : ℕ) → FourTaps
+four_of P1 P0 Q0 Q1 = record { p1 = u2s P1; p0 = u2s P0; q0 = u2s Q0; q1 = u2s Q1 }
+
+abbrev taps_of : (P3 P2 P1 P0 Q0 Q1 Q2 Q3 : ℕ) → EightTaps
+taps_of P3 P2 P1 P0 Q0 Q1 Q2 Q3 = record { p3 = u2s P3; p2 = u2s P2; near = four_of P1 P0 Q0 Q1; q2 = u2s Q2; q3 = u2s Q3 }
+
 -- the inner taps of eight samples
 six_of : List ℕ → InnerTaps
 six_of vs = record { p2 = u2s (get_or vs 1 0); p1 = u2s (get_or vs 2 0); p0 = u2s (get_or vs 3 0); q0 = u2s (get_or vs 4 0); q1 = u2s (get_or vs 5 0); q2 = u2s (get_or vs 6 0) }
 
 module _ (P3 P2 P1 P0 Q0 Q1 Q2 Q3 : ℕ) (h2 : P2 < 256) (h1 : P1 < 256) (h0 : P0 < 256) (k0 : Q0 < 256) (k1 : Q1 < 256) (k2 : Q2 < 256) where
-  mb-still : (v : Bool) → six_of (P3 ∷ P2 ∷ P1 ∷ P0 ∷ Q0 ∷ Q1 ∷ Q2 ∷ Q3 ∷ []) ≡ widened_taps v (pos 0) (u2s P2) (u2s P1) (u2s P0) (u2s Q0) (u2s Q1) (u2s Q2)
-  unfolding six_of widened_taps
+  mb-still : (v : Bool) → six_of (P3 ∷ P2 ∷ P1 ∷ P0 ∷ Q0 ∷ Q1 ∷ Q2 ∷ Q3 ∷ []) ≡ widened v (pos 0) (taps_of P3 P2 P1 P0 Q0 Q1 Q2 Q3)
+  unfolding six_of widened
   mb-still true = λ i. record { p2 = up0 P2 _ h2 zero9 i; p1 = up0 P1 _ h1 zero18 i; p0 = up0 P0 _ h0 (none _ _ zero27 gain0) i; q0 = dn0 Q0 _ k0 (none _ _ zero27 loss0) i; q1 = dn0 Q1 _ k1 zero18 i; q2 = dn0 Q2 _ k2 zero9 i }
   mb-still false = λ i. record { p2 = up0 P2 _ h2 zero9 i; p1 = up0 P1 _ h1 zero18 i; p0 = up0 P0 _ h0 (none _ _ zero27 gain0) i; q0 = dn0 Q0 _ k0 (none _ _ zero27 loss0) i; q1 = dn0 Q1 _ k1 zero18 i; q2 = dn0 Q2 _ k2 zero9 i }
 
@@ -85,8 +94,8 @@ module _ (P3 P2 P1 P0 Q0 Q1 Q2 Q3 : ℕ) (h2 : P2 < 256) (h1 : P1 < 256) (h0 : P
       (P3 ∷ P2 ∷ P1 ∷ s2u (u2s P0 +ℤ gain_of w) ∷ s2u (u2s Q0 -ℤ loss_of w) ∷ Q1 ∷ Q2 ∷ Q3 ∷ [])
       (P3 ∷ s2u (u2s P2 +ℤ part 9 w) ∷ s2u (u2s P1 +ℤ part 18 w) ∷ s2u (u2s P0 +ℤ part 27 w) ∷ s2u (u2s Q0 -ℤ part 27 w) ∷ s2u (u2s Q1 -ℤ part 18 w) ∷ s2u (u2s Q2 -ℤ part 9 w) ∷ Q3 ∷ []))
       (P3 ∷ P2 ∷ P1 ∷ P0 ∷ Q0 ∷ Q1 ∷ Q2 ∷ Q3 ∷ []))
-      ≡ widened_taps v (cond y w (pos 0)) (u2s P2) (u2s P1) (u2s P0) (u2s Q0) (u2s Q1) (u2s Q2)
-  unfolding six_of widened_taps
+      ≡ widened v (cond y w (pos 0)) (taps_of P3 P2 P1 P0 Q0 Q1 Q2 Q3)
+  unfolding six_of widened
   mb-cases true true w = λ i. record { p2 = up0 P2 _ h2 zero9 i; p1 = up0 P1 _ h1 zero18 i; p0 = up_s P0 (gain_of w) _ (left0 _ _ zero27) i; q0 = dn_s Q0 (loss_of w) _ (left0 _ _ zero27) i; q1 = dn0 Q1 _ k1 zero18 i; q2 = dn0 Q2 _ k2 zero9 i }
   mb-cases true false w = λ i. record { p2 = up_s P2 (part 9 w) _ refl i; p1 = up_s P1 (part 18 w) _ refl i; p0 = up_s P0 (part 27 w) _ (right0 _ _ gain0) i; q0 = dn_s Q0 (part 27 w) _ (right0 _ _ loss0) i; q1 = dn_s Q1 (part 18 w) _ refl i; q2 = dn_s Q2 (part 9 w) _ refl i }
   mb-cases false v w = mb-still v
@@ -98,8 +107,8 @@ module _ (P3 P2 P1 P0 Q0 Q1 Q2 Q3 : ℕ) (h2 : P2 < 256) (h1 : P1 < 256) (h0 : P
       (P3 ∷ P2 ∷ P1 ∷ s2u (u2s P0 +ℤ gain_of (a true)) ∷ s2u (u2s Q0 -ℤ loss_of (a true)) ∷ Q1 ∷ Q2 ∷ Q3 ∷ [])
       (P3 ∷ P2 ∷ s2u (u2s P1 +ℤ shr (loss_of (a false) +ℤ pos 1) 1) ∷ s2u (u2s P0 +ℤ gain_of (a false)) ∷ s2u (u2s Q0 -ℤ loss_of (a false)) ∷ s2u (u2s Q1 -ℤ shr (loss_of (a false) +ℤ pos 1) 1) ∷ Q2 ∷ Q3 ∷ []))
       (P3 ∷ P2 ∷ P1 ∷ P0 ∷ Q0 ∷ Q1 ∷ Q2 ∷ Q3 ∷ []))
-      ≡ softened_taps v (cond y (a v) (pos 0)) (u2s P2) (u2s P1) (u2s P0) (u2s Q0) (u2s Q1) (u2s Q2)
-  unfolding six_of softened_taps
+      ≡ softened v (cond y (a v) (pos 0)) (taps_of P3 P2 P1 P0 Q0 Q1 Q2 Q3)
+  unfolding six_of softened
   sub_cases true true a = λ i. record { p2 = u2s P2; p1 = up0 P1 _ h1 refl i; p0 = up_s P0 (gain_of (a true)) _ refl i; q0 = dn_s Q0 (loss_of (a true)) _ refl i; q1 = dn0 Q1 _ k1 refl i; q2 = u2s Q2 }
   sub_cases true false a = λ i. record { p2 = u2s P2; p1 = up_s P1 (shr (loss_of (a false) +ℤ pos 1) 1) _ refl i; p0 = up_s P0 (gain_of (a false)) _ refl i; q0 = dn_s Q0 (loss_of (a false)) _ refl i; q1 = dn_s Q1 (shr (loss_of (a false) +ℤ pos 1) 1) _ refl i; q2 = u2s Q2 }
   sub_cases false true a = λ i. record { p2 = u2s P2; p1 = up0 P1 _ h1 refl i; p0 = up0 P0 _ h0 gain0 i; q0 = dn0 Q0 _ k0 loss0 i; q1 = dn0 Q1 _ k1 refl i; q2 = u2s Q2 }
@@ -107,18 +116,18 @@ module _ (P3 P2 P1 P0 Q0 Q1 Q2 Q3 : ℕ) (h2 : P2 < 256) (h1 : P1 < 256) (h0 : P
 
   module _ (t n e : ℕ) where
     mb-samples : six_of (K.mb_filter t n e P3 P2 P1 P0 Q0 Q1 Q2 Q3)
-        ≡ widened_taps (hev t (u2s P1) (u2s P0) (u2s Q0) (u2s Q1))
-        (cond (filter_yes n e (u2s P3) (u2s P2) (u2s P1) (u2s P0) (u2s Q0) (u2s Q1) (u2s Q2) (u2s Q3)) (filter_value true (u2s P1) (u2s P0) (u2s Q0) (u2s Q1)) (pos 0))
-        (u2s P2) (u2s P1) (u2s P0) (u2s Q0) (u2s Q1) (u2s Q2)
+        ≡ widened (high_of t (four_of P1 P0 Q0 Q1))
+        (cond (normal_passes n e (taps_of P3 P2 P1 P0 Q0 Q1 Q2 Q3)) (value_of true (four_of P1 P0 Q0 Q1)) (pos 0))
+        (taps_of P3 P2 P1 P0 Q0 Q1 Q2 Q3)
     unfolding K.mb_filter segment_yes segment_hev adjusted_p0 adjusted_q0 adjustment wide_value
-    mb-samples = mb-cases (filter_yes n e (u2s P3) (u2s P2) (u2s P1) (u2s P0) (u2s Q0) (u2s Q1) (u2s Q2) (u2s Q3)) (hev t (u2s P1) (u2s P0) (u2s Q0) (u2s Q1)) (filter_value true (u2s P1) (u2s P0) (u2s Q0) (u2s Q1))
+    mb-samples = mb-cases (normal_passes n e (taps_of P3 P2 P1 P0 Q0 Q1 Q2 Q3)) (high_of t (four_of P1 P0 Q0 Q1)) (value_of true (four_of P1 P0 Q0 Q1))
 
     sub-samples : six_of (K.subblock_filter t n e P3 P2 P1 P0 Q0 Q1 Q2 Q3)
-        ≡ softened_taps (hev t (u2s P1) (u2s P0) (u2s Q0) (u2s Q1))
-        (cond (filter_yes n e (u2s P3) (u2s P2) (u2s P1) (u2s P0) (u2s Q0) (u2s Q1) (u2s Q2) (u2s Q3)) (filter_value (hev t (u2s P1) (u2s P0) (u2s Q0) (u2s Q1)) (u2s P1) (u2s P0) (u2s Q0) (u2s Q1)) (pos 0))
-        (u2s P2) (u2s P1) (u2s P0) (u2s Q0) (u2s Q1) (u2s Q2)
+        ≡ softened (high_of t (four_of P1 P0 Q0 Q1))
+        (cond (normal_passes n e (taps_of P3 P2 P1 P0 Q0 Q1 Q2 Q3)) (value_of (high_of t (four_of P1 P0 Q0 Q1)) (four_of P1 P0 Q0 Q1)) (pos 0))
+        (taps_of P3 P2 P1 P0 Q0 Q1 Q2 Q3)
     unfolding K.subblock_filter segment_yes segment_hev adjusted_p0 adjusted_q0 adjustment outer_step
-    sub-samples = sub_cases (filter_yes n e (u2s P3) (u2s P2) (u2s P1) (u2s P0) (u2s Q0) (u2s Q1) (u2s Q2) (u2s Q3)) (hev t (u2s P1) (u2s P0) (u2s Q0) (u2s Q1)) (λ o. filter_value o (u2s P1) (u2s P0) (u2s Q0) (u2s Q1))
+    sub-samples = sub_cases (normal_passes n e (taps_of P3 P2 P1 P0 Q0 Q1 Q2 Q3)) (high_of t (four_of P1 P0 Q0 Q1)) (λ o. value_of o (four_of P1 P0 Q0 Q1))
 
 simple-cases : (P1 P0 Q0 Q1 : ℕ) → P0 < 256 → Q0 < 256 → (y : Bool) (a : ℤ) →
     ◌≡◌ {A = EdgeTaps}
@@ -132,83 +141,61 @@ simple-cases P1 P0 Q0 Q1 h k false a = λ i. record { p0 = up0 P0 _ h gain0 i; q
 
 -- ---- on taps
 
-module _ (t n e : ℕ) (p3 p2 p1 p0 q0 q1 q2 q3 : ℤ) (s : SignedEight p3 p2 p1 p0 q0 q1 q2 q3) where
-  pub mb-taps : inner_taps (mb_filter t n e) p3 p2 p1 p0 q0 q1 q2 q3
-      ≡ widened_taps (hev t p1 p0 q0 q1) (cond (filter_yes n e p3 p2 p1 p0 q0 q1 q2 q3) (filter_value true p1 p0 q0 q1) (pos 0)) p2 p1 p0 q0 q1 q2
+-- taps that are stored read back
+four-again : (s : FourTaps) → SignedFour s → four_of (s2u s.p1) (s2u s.p0) (s2u s.q0) (s2u s.q1) ≡ s
+four-again s h =
+    let p1 = again s.p1 h.p1-in in
+    let p0 = again s.p0 h.p0-in in
+    let q0 = again s.q0 h.q0-in in
+    let q1 = again s.q1 h.q1-in in
+    (λ i. record { p1 = p1 i; p0 = p0 i; q0 = q0 i; q1 = q1 i })
+
+eight-again : (s : EightTaps) → SignedEight s → taps_of (s2u s.p3) (s2u s.p2) (s2u s.near.p1) (s2u s.near.p0) (s2u s.near.q0) (s2u s.near.q1) (s2u s.q2) (s2u s.q3) ≡ s
+eight-again s h =
+    let p3 = again s.p3 h.p3-in in
+    let p2 = again s.p2 h.p2-in in
+    let near = four-again s.near h.near-in in
+    let q2 = again s.q2 h.q2-in in
+    let q3 = again s.q3 h.q3-in in
+    (λ i. record { p3 = p3 i; p2 = p2 i; near = near i; q2 = q2 i; q3 = q3 i })
+
+module _ (t n e : ℕ) (s : EightTaps) (h : SignedEight s) where
+  pub mb-taps : inner_taps (mb_filter t n e) s ≡ widened (high_of t s.near) (cond (normal_passes n e s) (value_of true s.near) (pos 0)) s
   unfolding inner_taps smooth six_of
   mb-taps =
-      let a3 = again p3 s.p3-in in
-      let a2 = again p2 s.p2-in in
-      let a1 = again p1 s.p1-in in
-      let a0 = again p0 s.p0-in in
-      let b0 = again q0 s.q0-in in
-      let b1 = again q1 s.q1-in in
-      let b2 = again q2 s.q2-in in
-      let b3 = again q3 s.q3-in in
-      mb-samples (s2u p3) (s2u p2) (s2u p1) (s2u p0) (s2u q0) (s2u q1) (s2u q2) (s2u q3) (s2u-byte p2) (s2u-byte p1) (s2u-byte p0) (s2u-byte q0) (s2u-byte q1) (s2u-byte q2) t n e
-      ∙ (λ i. widened_taps (hev t (a1 i) (a0 i) (b0 i) (b1 i)) (cond (filter_yes n e (a3 i) (a2 i) (a1 i) (a0 i) (b0 i) (b1 i) (b2 i) (b3 i)) (filter_value true (a1 i) (a0 i) (b0 i) (b1 i)) (pos 0)) (a2 i) (a1 i) (a0 i) (b0 i) (b1 i) (b2 i))
+      mb-samples (s2u s.p3) (s2u s.p2) (s2u s.near.p1) (s2u s.near.p0) (s2u s.near.q0) (s2u s.near.q1) (s2u s.q2) (s2u s.q3) (s2u-byte s.p2) (s2u-byte s.near.p1) (s2u-byte s.near.p0) (s2u-byte s.near.q0) (s2u-byte s.near.q1) (s2u-byte s.q2) t n e
+      ∙ ap (λ (x : EightTaps). widened (high_of t x.near) (cond (normal_passes n e x) (value_of true x.near) (pos 0)) x) (eight-again s h)
 
-  pub sub-taps : inner_taps (subblock_filter t n e) p3 p2 p1 p0 q0 q1 q2 q3
-      ≡ softened_taps (hev t p1 p0 q0 q1) (cond (filter_yes n e p3 p2 p1 p0 q0 q1 q2 q3) (filter_value (hev t p1 p0 q0 q1) p1 p0 q0 q1) (pos 0)) p2 p1 p0 q0 q1 q2
+  pub sub-taps : inner_taps (subblock_filter t n e) s ≡ softened (high_of t s.near) (cond (normal_passes n e s) (value_of (high_of t s.near) s.near) (pos 0)) s
   unfolding inner_taps smooth six_of
   sub-taps =
-      let a3 = again p3 s.p3-in in
-      let a2 = again p2 s.p2-in in
-      let a1 = again p1 s.p1-in in
-      let a0 = again p0 s.p0-in in
-      let b0 = again q0 s.q0-in in
-      let b1 = again q1 s.q1-in in
-      let b2 = again q2 s.q2-in in
-      let b3 = again q3 s.q3-in in
-      sub-samples (s2u p3) (s2u p2) (s2u p1) (s2u p0) (s2u q0) (s2u q1) (s2u q2) (s2u q3) (s2u-byte p2) (s2u-byte p1) (s2u-byte p0) (s2u-byte q0) (s2u-byte q1) (s2u-byte q2) t n e
-      ∙ (λ i. softened_taps (hev t (a1 i) (a0 i) (b0 i) (b1 i)) (cond (filter_yes n e (a3 i) (a2 i) (a1 i) (a0 i) (b0 i) (b1 i) (b2 i) (b3 i)) (filter_value (hev t (a1 i) (a0 i) (b0 i) (b1 i)) (a1 i) (a0 i) (b0 i) (b1 i)) (pos 0)) (a2 i) (a1 i) (a0 i) (b0 i) (b1 i) (b2 i))
+      sub-samples (s2u s.p3) (s2u s.p2) (s2u s.near.p1) (s2u s.near.p0) (s2u s.near.q0) (s2u s.near.q1) (s2u s.q2) (s2u s.q3) (s2u-byte s.p2) (s2u-byte s.near.p1) (s2u-byte s.near.p0) (s2u-byte s.near.q0) (s2u-byte s.near.q1) (s2u-byte s.q2) t n e
+      ∙ ap (λ (x : EightTaps). softened (high_of t x.near) (cond (normal_passes n e x) (value_of (high_of t x.near) x.near) (pos 0)) x) (eight-again s h)
 
-pub simple-taps : (e : ℕ) (p1 p0 q0 q1 : ℤ) → SignedFour p1 p0 q0 q1
-    → edge_taps (simple_segment e) p1 p0 q0 q1
-    ≡ record {
-      p0 = clamp (p0 +ℤ gain_of (cond (leb (edge_value p1 p0 q0 q1) e) (filter_value true p1 p0 q0 q1) (pos 0)));
-      q0 = clamp (q0 -ℤ loss_of (cond (leb (edge_value p1 p0 q0 q1) e) (filter_value true p1 p0 q0 q1) (pos 0)));
-    }
+  pub mb-in : SignedSix (inner_taps (mb_filter t n e) s)
+  unfolding widened
+  mb-in = rw mb-taps (record { p2-in = R.clamp-in _; p1-in = R.clamp-in _; p0-in = R.clamp-in _; q0-in = R.clamp-in _; q1-in = R.clamp-in _; q2-in = R.clamp-in _ })
+
+  pub sub_in : SignedSix (inner_taps (subblock_filter t n e) s)
+  unfolding softened
+  sub_in = rw sub-taps (record { p2-in = h.p2-in; p1-in = R.clamp-in _; p0-in = R.clamp-in _; q0-in = R.clamp-in _; q1-in = R.clamp-in _; q2-in = h.q2-in })
+
+pub simple-taps : (e : ℕ) (s : FourTaps) → SignedFour s
+    → edge_taps (simple_segment e) s
+    ≡ record { p0 = clamp (s.p0 +ℤ gain_of (cond (simple_passes e s) (value_of true s) (pos 0))); q0 = clamp (s.q0 -ℤ loss_of (cond (simple_passes e s) (value_of true s) (pos 0))) }
 unfolding edge_taps smooth K.simple_segment K.common_adjust simple_yes adjusted_p0 adjusted_q0 adjustment
-simple-taps e p1 p0 q0 q1 s =
-    let a1 = again p1 s.p1-in in
-    let a0 = again p0 s.p0-in in
-    let b0 = again q0 s.q0-in in
-    let b1 = again q1 s.q1-in in
-    let raw = sym (edge-signed (s2u p1) (s2u p0) (s2u q0) (s2u q1)) ∙ (λ i. edge_value (a1 i) (a0 i) (b0 i) (b1 i)) in
-    simple-cases (s2u p1) (s2u p0) (s2u q0) (s2u q1) (s2u-byte p0) (s2u-byte q0) (leb (edge_value (pos (s2u p1)) (pos (s2u p0)) (pos (s2u q0)) (pos (s2u q1))) e) (filter_value true (u2s (s2u p1)) (u2s (s2u p0)) (u2s (s2u q0)) (u2s (s2u q1)))
+simple-taps e s h =
+    let same = four-again s h in
+    let raw = sym (edge-signed (s2u s.p1) (s2u s.p0) (s2u s.q0) (s2u s.q1)) ∙ ap (λ (x : FourTaps). edge_value x.p1 x.p0 x.q0 x.q1) same in
+    simple-cases (s2u s.p1) (s2u s.p0) (s2u s.q0) (s2u s.q1) (s2u-byte s.p0) (s2u-byte s.q0) (leb (edge_value (pos (s2u s.p1)) (pos (s2u s.p0)) (pos (s2u s.q0)) (pos (s2u s.q1))) e) (value_of true (four_of (s2u s.p1) (s2u s.p0) (s2u s.q0) (s2u s.q1)))
     ∙ (λ i. record {
-      p0 = clamp (a0 i +ℤ gain_of (cond (leb (raw i) e) (filter_value true (a1 i) (a0 i) (b0 i) (b1 i)) (pos 0)));
-      q0 = clamp (b0 i -ℤ loss_of (cond (leb (raw i) e) (filter_value true (a1 i) (a0 i) (b0 i) (b1 i)) (pos 0)));
+      p0 = clamp ((same i).p0 +ℤ gain_of (cond (leb (raw i) e) (value_of true (same i)) (pos 0)));
+      q0 = clamp ((same i).q0 -ℤ loss_of (cond (leb (raw i) e) (value_of true (same i)) (pos 0)));
     })
-
--- ---- taps stay taps
-
-pub record SignedSix (s : InnerTaps) : Type 0 where
-  pub p2-in : mag s.p2 < 128
-  pub p1-in : mag s.p1 < 128
-  pub p0-in : mag s.p0 < 128
-  pub q0-in : mag s.q0 < 128
-  pub q1-in : mag s.q1 < 128
-  pub q2-in : mag s.q2 < 128
-
-widened-in : (v : Bool) (w p2 p1 p0 q0 q1 q2 : ℤ) → SignedSix (widened_taps v w p2 p1 p0 q0 q1 q2)
-unfolding widened_taps
-widened-in v w p2 p1 p0 q0 q1 q2 = record { p2-in = R.clamp-in _; p1-in = R.clamp-in _; p0-in = R.clamp-in _; q0-in = R.clamp-in _; q1-in = R.clamp-in _; q2-in = R.clamp-in _ }
-
-softened-in : (v : Bool) (a p2 p1 p0 q0 q1 q2 : ℤ) → mag p2 < 128 → mag q2 < 128 → SignedSix (softened_taps v a p2 p1 p0 q0 q1 q2)
-unfolding softened_taps
-softened-in v a p2 p1 p0 q0 q1 q2 h k = record { p2-in = h; p1-in = R.clamp-in _; p0-in = R.clamp-in _; q0-in = R.clamp-in _; q1-in = R.clamp-in _; q2-in = k }
-
-pub mb-in : (t n e : ℕ) (p3 p2 p1 p0 q0 q1 q2 q3 : ℤ) → SignedEight p3 p2 p1 p0 q0 q1 q2 q3 → SignedSix (inner_taps (mb_filter t n e) p3 p2 p1 p0 q0 q1 q2 q3)
-mb-in t n e p3 p2 p1 p0 q0 q1 q2 q3 s = rw (mb-taps t n e p3 p2 p1 p0 q0 q1 q2 q3 s) (widened-in _ _ p2 p1 p0 q0 q1 q2)
-
-pub sub_in : (t n e : ℕ) (p3 p2 p1 p0 q0 q1 q2 q3 : ℤ) → SignedEight p3 p2 p1 p0 q0 q1 q2 q3 → SignedSix (inner_taps (subblock_filter t n e) p3 p2 p1 p0 q0 q1 q2 q3)
-sub_in t n e p3 p2 p1 p0 q0 q1 q2 q3 s = rw (sub-taps t n e p3 p2 p1 p0 q0 q1 q2 q3 s) (softened-in _ _ p2 p1 p0 q0 q1 q2 s.p2-in s.q2-in)
 
 pub record SignedTwo (s : EdgeTaps) : Type 0 where
   pub p0-in : mag s.p0 < 128
   pub q0-in : mag s.q0 < 128
 
-pub simple-in : (e : ℕ) (p1 p0 q0 q1 : ℤ) → SignedFour p1 p0 q0 q1 → SignedTwo (edge_taps (simple_segment e) p1 p0 q0 q1)
-simple-in e p1 p0 q0 q1 s = rw (simple-taps e p1 p0 q0 q1 s) (record { p0-in = R.clamp-in _; q0-in = R.clamp-in _ })
+pub simple-in : (e : ℕ) (s : FourTaps) → SignedFour s → SignedTwo (edge_taps (simple_segment e) s)
+simple-in e s h = rw (simple-taps e s h) (record { p0-in = R.clamp-in _; q0-in = R.clamp-in _ })

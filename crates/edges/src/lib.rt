@@ -2,6 +2,9 @@
 #![tactic(auto)]
 
 pub mod horizontal;
+pub mod length;
+pub mod normal;
+mod position;
 mod room;
 mod run;
 mod taps;

@@ -8,7 +8,7 @@ ghost use Rattle.edges.specs.Private.Runs.{row_at, store_row, SignedRow};
 fn u2s16(v: u8) -> i16
     ensures { result ≡ u2s v }
 {
-    v as i16 - 128
+    i16::from(v) - 128
 }
 
 // A tap of -128..127 as a sample.
@@ -19,44 +19,25 @@ fn s2u16(v: i16) -> u8
     (v + 128) as u8
 }
 
-pub(crate) fn gather16(plane: &[u8], at: usize) -> [i16; 16]
-    requires { at + 16 ≤ length plane.now }
-    ensures { result ≡ row_at 16 at plane.now }
+// N samples from `at` on. One index walks the plane and the row.
+pub(crate) fn gather<const N: usize>(plane: &[u8], at: usize) -> [i16; N]
+    requires { at + N ≤ length plane.now }
+    ensures { result ≡ row_at N at plane.now }
 {
-    let mut row = [0i16; 16];
-    for n in 0..16 {
+    let mut row = [0i16; N];
+    for n in 0..N {
         row[n] = u2s16(plane[at + n]);
     }
     row
 }
 
-pub(crate) fn gather8(plane: &[u8], at: usize) -> [i16; 8]
-    requires { at + 8 ≤ length plane.now }
-    ensures { result ≡ row_at 8 at plane.now }
+// The same, stored.
+pub(crate) fn scatter<const N: usize>(plane: &mut [u8], at: usize, row: [i16; N])
+    requires at_in_bounds { at + N ≤ length plane.old }
+    requires signed_row { SignedRow N row }
+    ensures { plane.new ≡ store_row N at row.entry plane.old }
 {
-    let mut row = [0i16; 8];
-    for n in 0..8 {
-        row[n] = u2s16(plane[at + n]);
-    }
-    row
-}
-
-pub(crate) fn scatter16(plane: &mut [u8], at: usize, row: [i16; 16])
-    requires at_in_bounds { at + 16 ≤ length plane.old }
-    requires signed_row { SignedRow 16 row }
-    ensures { plane.new ≡ store_row 16 at row plane.old }
-{
-    for n in 0..16 {
-        plane[at + n] = s2u16(row[n]);
-    }
-}
-
-pub(crate) fn scatter8(plane: &mut [u8], at: usize, row: [i16; 8])
-    requires at_in_bounds { at + 8 ≤ length plane.old }
-    requires signed_row { SignedRow 8 row }
-    ensures { plane.new ≡ store_row 8 at row plane.old }
-{
-    for n in 0..8 {
+    for n in 0..N {
         plane[at + n] = s2u16(row[n]);
     }
 }

@@ -1,24 +1,37 @@
 // Figures M, N and O of document 01, executed.
 #![tactic(auto)]
 
-ghost use Rattle.std.specs.Prelude.{◌≤◌};
+ghost use Rattle.std.specs.Prelude.{◌≤◌, ◌<◌};
 
-use calls::answers::{PassAnswer, pass_refusal_number};
-use frame::pass::{filter_frame, filter_inter_frame};
+use calls::answers::{Done, PassRefusal};
+use frame::entries::{InterLists, KeyLists};
+use frame::pass::filter_frame;
 use levels::config::FrameFilterConfig;
 use planes::layout::PlaneLayout;
+use planes::picture::PictureMut;
 use std::io;
 
-fn settings(simple: bool, level: u8) -> FrameFilterConfig {
-    let none = [0i16, 0, 0, 0];
+#[derive(Clone, Copy, PartialEq, Eq)]
+enum Filter {
+    Normal,
+    Simple,
+}
+
+#[derive(Clone, Copy, PartialEq, Eq)]
+enum Frames {
+    Key,
+    Inter,
+}
+
+fn settings(filter: Filter, level: u8) -> FrameFilterConfig {
     FrameFilterConfig {
-        simple: simple,
+        simple: filter == Filter::Simple,
         key_frame: true,
         loop_filter_level: level,
         sharpness_level: 0,
         segmentation_enabled: false,
         segment_abs: false,
-        segment_lf_level: none,
+        segment_lf_level: [0; 4],
         delta_enabled: false,
         ref_delta_current: 0,
         bpred_mode_delta: 0,
@@ -32,101 +45,99 @@ fn settings(simple: bool, level: u8) -> FrameFilterConfig {
 }
 
 // One row of macroblocks.
-fn layout(cols: usize) -> PlaneLayout {
+fn layout(mb_cols: usize) -> PlaneLayout {
     PlaneLayout {
-        mb_cols: cols,
+        mb_cols,
         mb_rows: 1,
         y_stride: 32,
         uv_stride: 16,
     }
 }
 
-// Rows that step from 100 to 108 in the middle.
-fn step_at(i: usize, half: usize) -> u8 {
-    if half == 0 {
-        return 100;
-    }
-    if i / half % 2 == 0 { 100 } else { 108 }
+// The planes of a grid of one or two macroblocks.
+#[derive(Clone, Copy, PartialEq, Eq)]
+struct Planes {
+    y: [u8; 512],
+    u: [u8; 128],
+    v: [u8; 128],
 }
 
-fn fill(plane: &mut [u8], half: usize) {
-    let mut i = 0;
-    while i < plane.len() {
-        plane[i] = step_at(i, half);
-        i += 1;
+// Rows that step between 100 and 108 every `half` samples.
+fn steps<const N: usize>(half: usize) -> [u8; N]
+    requires { 0 < half }
+{
+    let mut plane = [100u8; N];
+    for (i, sample) in plane.iter_mut().enumerate() {
+        if i / half % 2 == 1 {
+            *sample = 108;
+        }
+    }
+    plane
+}
+
+impl Planes {
+    fn stepped(luma_half: usize, chroma_half: usize) -> Planes
+        requires luma { 0 < luma_half }
+        requires chroma { 0 < chroma_half }
+    {
+        Planes {
+            y: steps(luma_half),
+            u: steps(chroma_half),
+            v: steps(chroma_half),
+        }
+    }
+
+    fn lend(&mut self) -> PictureMut<'_> {
+        let Planes { y, u, v } = self;
+        PictureMut { y, u, v }
     }
 }
 
 // One macroblock of mode Dc and flag 0, through one of the passes.
 fn filter_one(
-    y: &mut [u8],
-    u: &mut [u8],
-    v: &mut [u8],
-    simple: bool,
-    inter: bool,
+    planes: &mut Planes,
+    filter: Filter,
+    frames: Frames,
     level: u8,
-) -> PassAnswer {
+) -> Result<Done, PassRefusal> {
     let zero = [0u8];
-    let config = settings(simple, level);
-    if inter {
-        filter_inter_frame(
-            y,
-            u,
-            v,
-            layout(1),
-            &zero,
-            &zero,
-            &zero,
-            &zero,
-            &zero,
-            config,
-            0,
-            1,
-        )
-    } else {
-        filter_frame(y, u, v, layout(1), &zero, &zero, &zero, config, 0, 1)
+    let key = KeyLists {
+        modes: &zero,
+        segments: &zero,
+        flags: &zero,
+    };
+    let inter = InterLists {
+        key,
+        references: &zero,
+        inter_modes: &zero,
+    };
+    let config = settings(filter, level);
+    match frames {
+        Frames::Key => filter_frame(&mut planes.lend(), layout(1), key, config, 0, 1),
+        Frames::Inter => filter_frame(&mut planes.lend(), layout(1), inter, config, 0, 1),
     }
 }
 
-// A macroblock was done, and nothing smoothed.
-fn none_smoothed(answer: PassAnswer) -> bool {
-    match answer {
-        PassAnswer::Done {
-            count,
-            next: _,
-            smoothed,
-        } => (count == 1) & (smoothed == 0),
-        PassAnswer::Refused(_) => false,
-    }
-}
-
-// M: it keeps every sample, and smooths nothing.
-fn one_macroblock_stays(simple: bool, inter: bool, level: u8) -> bool {
-    let mut y = [0u8; 512];
-    let mut u = [0u8; 128];
-    let mut v = [0u8; 128];
-    fill(&mut y, 4);
-    fill(&mut u, 4);
-    fill(&mut v, 4);
-    let y0 = y;
-    let u0 = u;
-    let v0 = v;
-    let answer = filter_one(&mut y, &mut u, &mut v, simple, inter, level);
-    none_smoothed(answer) & (y == y0) & (u == u0) & (v == v0)
+// M: a macroblock is done, it keeps every sample, and nothing is smoothed.
+fn one_macroblock_stays(filter: Filter, frames: Frames, level: u8) -> bool {
+    let before = Planes::stepped(4, 4);
+    let mut planes = before;
+    let done = Done {
+        count: 1,
+        next: 1,
+        smoothed: 0,
+    };
+    let answer = filter_one(&mut planes, filter, frames, level);
+    (answer == Ok(done)) & (planes == before)
 }
 
 // M, for every header byte.
-fn stays_at_every_level(simple: bool, inter: bool) -> bool {
-    for level in 0..=255u8 {
-        if !one_macroblock_stays(simple, inter, level) {
-            return false;
-        }
-    }
-    true
+fn stays_at_every_level(filter: Filter, frames: Frames) -> bool {
+    (0..=255u8).all(|level| one_macroblock_stays(filter, frames, level))
 }
 
-fn say(rt: &impl Print, ok: bool) -> io::Result<()> {
-    if ok {
+fn show_stays(rt: &impl Print, filter: Filter, frames: Frames) -> io::Result<()> {
+    if stays_at_every_level(filter, frames) {
         println!(rt; "nothing changes, nothing is smoothed")
     } else {
         println!(rt; "a sample changes, or something is smoothed")
@@ -140,12 +151,8 @@ fn column_differs(a: &[u8], b: &[u8], stride: usize, column: usize) -> bool
 {
     for row in 0..16 {
         let i = row * stride + column;
-        if i < a.len() {
-            if i < b.len() {
-                if a[i] != b[i] {
-                    return true;
-                }
-            }
+        if a.get(i) != b.get(i) {
+            return true;
         }
     }
     false
@@ -165,38 +172,32 @@ fn show_columns(rt: &impl Print, a: &[u8], b: &[u8], stride: usize) -> io::Resul
     println!(rt)
 }
 
-fn show_answer(rt: &impl Print, answer: PassAnswer) -> io::Result<()> {
+fn show_answer(rt: &impl Print, answer: Result<Done, PassRefusal>) -> io::Result<()> {
     match answer {
-        PassAnswer::Done {
-            count,
-            next,
-            smoothed,
-        } => println!(rt; "count {count}, next {next}, smoothed {smoothed}"),
-        PassAnswer::Refused(refusal) => {
-            let number = pass_refusal_number(refusal);
-            println!(rt; "refused with {number}")
-        }
+        Ok(
+            Done {
+                count,
+                next,
+                smoothed,
+            },
+        ) => println!(rt; "count {count}, next {next}, smoothed {smoothed}"),
+        Err(refusal) => println!(rt; "refused with {}", u8::from(refusal)),
     }
 }
 
 // A call on a grid of two macroblocks of mode Dc and flag 0.
-fn filter_two(
-    y: &mut [u8],
-    u: &mut [u8],
-    v: &mut [u8],
-    start: usize,
-    allowance: usize,
-) -> PassAnswer {
+fn filter_two(planes: &mut Planes, start: usize, allowance: usize) -> Result<Done, PassRefusal> {
     let zero = [0u8; 2];
-    let config = settings(false, 63);
+    let entries = KeyLists {
+        modes: &zero,
+        segments: &zero,
+        flags: &zero,
+    };
+    let config = settings(Filter::Normal, 63);
     filter_frame(
-        y,
-        u,
-        v,
+        &mut planes.lend(),
         layout(2),
-        &zero,
-        &zero,
-        &zero,
+        entries,
         config,
         start,
         allowance,
@@ -205,39 +206,32 @@ fn filter_two(
 
 // N: halted after one macroblock, then resumed. O: starts 2 and 3.
 fn two_macroblocks(rt: &impl Print) -> io::Result<()> {
-    let mut y = [0u8; 512];
-    let mut u = [0u8; 128];
-    let mut v = [0u8; 128];
-    fill(&mut y, 16);
-    fill(&mut u, 8);
-    fill(&mut v, 8);
+    let mut planes = Planes::stepped(16, 8);
     print!(rt; "N first call: ")?;
-    show_answer(rt, filter_two(&mut y, &mut u, &mut v, 0, 1))?;
-    let y1 = y;
-    let u1 = u;
-    let v1 = v;
+    show_answer(rt, filter_two(&mut planes, 0, 1))?;
+    let halted = planes;
     print!(rt; "N second call: ")?;
-    show_answer(rt, filter_two(&mut y, &mut u, &mut v, 1, 1))?;
+    show_answer(rt, filter_two(&mut planes, 1, 1))?;
     print!(rt; "N columns that it changes, y: ")?;
-    show_columns(rt, &y, &y1, 32)?;
+    show_columns(rt, &planes.y, &halted.y, 32)?;
     print!(rt; "N columns that it changes, u: ")?;
-    show_columns(rt, &u, &u1, 16)?;
+    show_columns(rt, &planes.u, &halted.u, 16)?;
     print!(rt; "N columns that it changes, v: ")?;
-    show_columns(rt, &v, &v1, 16)?;
+    show_columns(rt, &planes.v, &halted.v, 16)?;
     print!(rt; "O start 2: ")?;
-    show_answer(rt, filter_two(&mut y, &mut u, &mut v, 2, 5))?;
+    show_answer(rt, filter_two(&mut planes, 2, 5))?;
     print!(rt; "O start 3: ")?;
-    show_answer(rt, filter_two(&mut y, &mut u, &mut v, 3, 5))
+    show_answer(rt, filter_two(&mut planes, 3, 5))
 }
 
 fn main(rt: HostRuntime) -> io::Result<()> {
     print!(rt; "M normal, key: ")?;
-    say(&rt, stays_at_every_level(false, false))?;
+    show_stays(&rt, Filter::Normal, Frames::Key)?;
     print!(rt; "M normal, inter: ")?;
-    say(&rt, stays_at_every_level(false, true))?;
+    show_stays(&rt, Filter::Normal, Frames::Inter)?;
     print!(rt; "M simple, key: ")?;
-    say(&rt, stays_at_every_level(true, false))?;
+    show_stays(&rt, Filter::Simple, Frames::Key)?;
     print!(rt; "M simple, inter: ")?;
-    say(&rt, stays_at_every_level(true, true))?;
+    show_stays(&rt, Filter::Simple, Frames::Inter)?;
     two_macroblocks(&rt)
 }

@@ -12,8 +12,10 @@ use Rattle.planes.specs.Edges.{Direction, vertical, horizontal}
 use Rattle.planes.specs.Private.Worked.{Worked}
 use Rattle.edges.specs.EdgeFrom.{edge_from, edge_fits, edge_within, smoothed_from, smoothed_within}
 use Rattle.edges.proofs.EdgeRoom.{vertical-within, horizontal-within, vertical-counted, horizontal-counted}
-use Rattle.edges.proofs.VerticalRows.{length_from, counted-most}
-use Rattle.frame.specs.Private.PlaneEdges.{along, Did, three_vertical, three_horizontal}
+use Rattle.edges.proofs.VerticalRows.{counted-most}
+use Rattle.planes.specs.Steps.{steps}
+use Rattle.planes.proofs.Steps.{steps-last}
+use Rattle.frame.specs.Private.PlaneEdges.{along, Did}
 
 -- ---- nothing; one thing after another; a thing that a test chose
 
@@ -56,27 +58,19 @@ module _ (k : Kernel) (s base n : ℕ) (l l' : List ℕ) (r : ℕ) where
   pub did-horizontal : n ≤ s → base + (taps k - 1) * s + n ≤ length l → l' ≡ edge_within horizontal k s base n l → r ≡ smoothed_within horizontal k s base n l → Did n (along horizontal k s base n) l l' r
   did-horizontal wide room e q = did-along horizontal k s base n l l' r (e ∙ horizontal-within k s base n l wide room) (q ∙ horizontal-counted k s base n l wide room)
 
--- ---- the inner edges of a luma square
+-- ---- numbered things, one a turn
 
-module _ (k : Kernel) (s a : ℕ) (l l1 l2 l3 : List ℕ) (r1 r2 r3 : ℕ) where
-  pub three-vertical-within : a + 15 * s + 8 + taps k ≤ length l
-      → (l1 ≡ edge_within vertical k s a 16 l) × (r1 ≡ smoothed_within vertical k s a 16 l)
-      → (l2 ≡ edge_within vertical k s (a + 4) 16 l1) × (r2 ≡ smoothed_within vertical k s (a + 4) 16 l1)
-      → (l3 ≡ edge_within vertical k s (a + 8) 16 l2) × (r3 ≡ smoothed_within vertical k s (a + 8) 16 l2) → Did 48 (three_vertical k s a) l l3 (r1 + r2 + r3)
-  unfolding three_vertical
-  three-vertical-within room (e1, q1) (e2, q2) (e3, q3) =
-      let n1 = ap length (e1 ∙ vertical-within k s a 16 l (omega arith)) ∙ length_from vertical k s a 16 l in
-      let n2 = ap length (e2 ∙ vertical-within k s (a + 4) 16 l1 (omega (arith, n1))) ∙ length_from vertical k s (a + 4) 16 l1 in
-      did_then (did_then (did-vertical k s a 16 l l1 r1 (omega arith) e1 q1) (did-vertical k s (a + 4) 16 l1 l2 r2 (omega (arith, n1)) e2 q2))
-      (did-vertical k s (a + 8) 16 l2 l3 r3 (omega (arith, n1, n2)) e3 q3)
+module _ (f : ℕ → Worked → Worked) (most : ℕ) {l : List ℕ} where
+  pub did-first : Did (most * (1 - 1)) (steps f 1 (1 - 1)) l l 0
+  unfolding steps
+  did-first = did_nothing (most * (1 - 1)) l
 
-  pub three-horizontal-within : 16 ≤ s → a + 8 * s + (taps k - 1) * s + 16 ≤ length l
-      → (l1 ≡ edge_within horizontal k s a 16 l) × (r1 ≡ smoothed_within horizontal k s a 16 l)
-      → (l2 ≡ edge_within horizontal k s (a + 4 * s) 16 l1) × (r2 ≡ smoothed_within horizontal k s (a + 4 * s) 16 l1)
-      → (l3 ≡ edge_within horizontal k s (a + 8 * s) 16 l2) × (r3 ≡ smoothed_within horizontal k s (a + 8 * s) 16 l2) → Did 48 (three_horizontal k s a) l l3 (r1 + r2 + r3)
-  unfolding three_horizontal
-  three-horizontal-within wide room (e1, q1) (e2, q2) (e3, q3) =
-      let n1 = ap length (e1 ∙ horizontal-within k s a 16 l wide (omega arith)) ∙ length_from horizontal k s a 16 l in
-      let n2 = ap length (e2 ∙ horizontal-within k s (a + 4 * s) 16 l1 wide (omega (arith, n1))) ∙ length_from horizontal k s (a + 4 * s) 16 l1 in
-      did_then (did_then (did-horizontal k s a 16 l l1 r1 wide (omega arith) e1 q1) (did-horizontal k s (a + 4 * s) 16 l1 l2 r2 wide (omega (arith, n1)) e2 q2))
-      (did-horizontal k s (a + 8 * s) 16 l2 l3 r3 wide (omega (arith, n1, n2)) e3 q3)
+  pub did-next : (n : ℕ) {l₁ l₂ : List ℕ} {r₁ r₂ : ℕ} → 1 ≤ n → Did (most * (n - 1)) (steps f 1 (n - 1)) l l₁ r₁ → Did most (f n) l₁ l₂ r₂ → Did (most * (n + 1 - 1)) (steps f 1 (n + 1 - 1)) l l₂ (r₁ + r₂)
+  did-next n h d e =
+      let next : n + 1 - 1 ≡ n - 1 + 1 = omega arith in
+      let this : 1 + (n - 1) ≡ n = omega arith in
+      record {
+        few = omega (arith, d.few, e.few, ap (λ (k : ℕ). most * k) next);
+        worked = λ m. (did_then d e).worked m
+            ∙ sym (ap (λ (k : ℕ). steps f 1 k (record { samples = l; smoothed = m })) next ∙ steps-last f 1 (n - 1) (record { samples = l; smoothed = m }) ∙ ap (λ (k : ℕ). f k (steps f 1 (n - 1) (record { samples = l; smoothed = m }))) this);
+      }

@@ -1,11 +1,9 @@
 -- The step of a macroblock.
 pub mod Bases
 pub mod EdgesWithin
+pub mod PlaneEdges
 pub mod PlaneSteps
 pub mod Squares
--- The passes over byte lists.
+-- The passes.
 pub mod Soundness
 pub mod Passes
--- The passes over lent lists of records.
-pub mod RecordLaws
-pub mod RecordPasses

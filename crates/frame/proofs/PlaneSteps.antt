@@ -2,7 +2,7 @@
 -- Assumes nothing.
 use mathlib.Core.Path.{◌≡◌, refl, sym, ap, ap₂, subst, ◌∙◌}
 use mathlib.Core.Bool.{Bool, true, false, cond}
-use Prim.Native.Nat.{ℕ, zero, suc, ◌+◌, ◌-◌, ◌*◌, ◌≤◌, ◌<◌}
+use Prim.Native.Nat.{ℕ, zero, suc, ◌+◌, ◌-◌, ◌*◌, ◌/◌, ◌≤◌, ◌<◌}
 use native.Mathlib.Nat.{add-mul, add-zero}
 use native.Mathlib.Omega.{arith}
 use lib.Dec.{ltb}
@@ -15,7 +15,9 @@ use Rattle.planes.specs.Private.Worked.{Worked, work_edge, WorkedPlanes, samples
 use Rattle.planes.specs.Layout.{grid_of}
 use Rattle.planes.specs.declared.layout.PlaneLayout.{PlaneLayout}
 use Rattle.frame.specs.Private.Ranges.{Stepped}
-use Rattle.frame.specs.Private.PlaneEdges.{along, left_from, top_from, three_vertical, three_horizontal, luma_from, chroma_from}
+use Rattle.planes.specs.Steps.{steps}
+use Rattle.frame.specs.declared.plane.Square.{Square}
+use Rattle.frame.specs.Private.PlaneEdges.{square_at, along, left_from, top_from, inner_at, inner_from, plane_from}
 use Rattle.planes.specs.Macroblock.{Plan, filter, lead}
 use Rattle.frame.proofs.Bases.{edge_base, work-from}
 use Rattle.planes.proofs.StepParts.{edge_of}
@@ -73,45 +75,21 @@ module _ (g : Grid) (r c : ℕ) where
 
   -- ---- the parts of the step, plane by plane
 
-  left_is : (q : Plane) (k : Kernel) (l : Worked) → cond (ltb 0 c) (work_edge g r c (edge_of q vertical 0 k) l) l ≡ left_from k (half k) (side q) (stride g q) (corner q) c l
+  abbrev pub square : Plane → Square
+  square q = square_at (side q) (stride g q) r c
+
+  left_is : (q : Plane) (k : Kernel) (l : Worked) → cond (ltb 0 c) (work_edge g r c (edge_of q vertical 0 k) l) l ≡ left_from k (side q) (square q) l
   unfolding left_from
   left_is q k l = if-so (ltb 0 c) _ _ l (λ e. border-v q k l (ltb-true 0 c e))
 
-  top-is : (q : Plane) (k : Kernel) (l : Worked) → cond (ltb 0 r) (work_edge g r c (edge_of q horizontal 0 k) l) l ≡ top_from k (half k) (side q) (stride g q) (corner q) r l
+  top-is : (q : Plane) (k : Kernel) (l : Worked) → cond (ltb 0 r) (work_edge g r c (edge_of q horizontal 0 k) l) l ≡ top_from k (side q) (square q) l
   unfolding top_from
   top-is q k l = if-so (ltb 0 r) _ _ l (λ e. border-h q k l (ltb-true 0 r e))
 
-  three-v : (k : Kernel) (l : Worked) (first : ℕ) → half k ≤ 4 → first ≡ corner luma + (4 - half k)
-      → work_edge g r c (edge_of luma vertical 12 k) (work_edge g r c (edge_of luma vertical 8 k) (work_edge g r c (edge_of luma vertical 4 k) l)) ≡ three_vertical k (stride g luma) first l
-  unfolding three_vertical
-  three-v k l first h e =
-      inner-v luma 12 k _ (omega arith)
-      ∙ ap₂ (λ (b : ℕ) (m : Worked). along vertical k (stride g luma) b 16 m) at12
-      (inner-v luma 8 k _ (omega arith)
-      ∙ ap₂ (λ (b : ℕ) (m : Worked). along vertical k (stride g luma) b 16 m) at8
-      (inner-v luma 4 k l h ∙ ap (λ (b : ℕ). along vertical k (stride g luma) b 16 l) (sym e)))
-    where
-      at12 : corner luma + (12 - half k) ≡ first + 8
-      at12 = omega arith
-
-      at8 : corner luma + (8 - half k) ≡ first + 4
-      at8 = omega arith
-
-  three-h : (k : Kernel) (l : Worked) (first : ℕ) → half k ≤ 4 → first ≡ corner luma + (4 - half k) * stride g luma
-      → work_edge g r c (edge_of luma horizontal 12 k) (work_edge g r c (edge_of luma horizontal 8 k) (work_edge g r c (edge_of luma horizontal 4 k) l)) ≡ three_horizontal k (stride g luma) first l
-  unfolding three_horizontal
-  three-h k l first h e =
-      inner-h luma 12 k _ (omega arith)
-      ∙ ap₂ (λ (b : ℕ) (m : Worked). along horizontal k (stride g luma) b 16 m) (down 12 8 (omega arith))
-      (inner-h luma 8 k _ (omega arith)
-      ∙ ap₂ (λ (b : ℕ) (m : Worked). along horizontal k (stride g luma) b 16 m) (down 8 4 (omega arith))
-      (inner-h luma 4 k l h ∙ ap (λ (b : ℕ). along horizontal k (stride g luma) b 16 l) (sym e)))
-    where
-      down : (off more : ℕ) → off ≡ 4 + more → corner luma + (off - half k) * stride g luma ≡ first + more * stride g luma
-      down off more eo = omega (arith, add-mul (4 - half k) more (stride g luma), ap (λ (n : ℕ). n * stride g luma) same)
-        where
-          same : 4 - half k + more ≡ off - half k
-          same = omega arith
+  -- inner edge n
+  inner_is : (q : Plane) (d : Direction) (n off : ℕ) (k : Kernel) (l : Worked) → 4 * n ≡ off → 1 ≤ n → work_edge g r c (edge_of q d off k) l ≡ inner_at d k (side q) (square q) n l
+  inner_is q vertical n off k l e h = inner-v q off k l (omega (arith, half-most k)) ∙ ap (λ (o : ℕ). along vertical k (stride g q) (corner q + (o - half k)) (side q) l) (sym e)
+  inner_is q horizontal n off k l e h = inner-h q off k l (omega (arith, half-most k)) ∙ ap (λ (o : ℕ). along horizontal k (stride g q) (corner q + (o - half k) * stride g q) (side q) l) (sym e)
 
 -- ---- the four parts, as records
 
@@ -150,6 +128,21 @@ module _ (g : Grid) (chroma : Bool) (outer inner : Kernel) (inside : Bool) (r c 
   one : Direction → Plane → Worked → Worked
   one d q l = cond inside (cond chroma (work_edge g r c (edge_of q d 4 inner) l) l) l
 
+  -- as the code has them, edge after edge
+  three-is : (d : Direction) (l : Worked) → cond inside (three d l) l ≡ inner_from d inner inside 16 (square g r c luma) l
+  unfolding inner_from steps three
+  three-is d l =
+      if-so inside _ _ l
+      (λ _. inner_is g r c luma d 3 12 inner _ refl (omega arith)
+      ∙ ap (inner_at d inner 16 (square g r c luma) 3) (inner_is g r c luma d 2 8 inner _ refl (omega arith) ∙ ap (inner_at d inner 16 (square g r c luma) 2) (inner_is g r c luma d 1 4 inner l refl (omega arith))))
+
+  one-is : (d : Direction) (q : Plane) (l : Worked) → chroma ≡ true → side q ≡ 8 → one d q l ≡ inner_from d inner inside (side q) (square g r c q) l
+  unfolding inner_from steps one
+  one-is d q l e e8 =
+      if-so inside _ _ l
+      (λ _. ap (λ (b : Bool). cond b (work_edge g r c (edge_of q d 4 inner) l) l) e ∙ inner_is g r c q d 1 4 inner l refl (omega arith)
+      ∙ ap (λ (n : ℕ). steps (inner_at d inner (side q) (square g r c q)) 1 (n / 4 - 1) l) (sym e8))
+
 insides-is : (g : Grid) (chroma : Bool) (outer inner : Kernel) (inside : Bool) (r c : ℕ) (d : Direction) (p : WorkedPlanes)
     → work_at g (filter chroma outer inner inside) r c (insides d) p
     ≡ record { y = cond inside (three g chroma outer inner inside r c d p.y) p.y; u = one g chroma outer inner inside r c d chroma_u p.u; v = one g chroma outer inner inside r c d chroma_v p.v }
@@ -181,69 +174,28 @@ step_is g chroma outer inner inside m p r c er ec =
 
 module _ (g : Grid) (outer inner : Kernel) (inside : Bool) (r c : ℕ) where
   -- luma, whether or not chroma is filtered too
-  luma-is : (chroma : Bool) (h first below : ℕ) (l : Worked) → half outer ≡ h → half inner ≤ 4
-      → first ≡ corner g r c luma + (4 - half inner) → below ≡ corner g r c luma + (4 - half inner) * stride g luma
+  luma-is : (chroma : Bool) (l : Worked)
       → cond inside (three g chroma outer inner inside r c horizontal (at-border g chroma outer inner inside r c horizontal luma true (cond inside (three g chroma outer inner inside r c vertical (at-border g chroma outer inner inside r c vertical luma true l)) (at-border g chroma outer inner inside r c vertical luma true l)))) (at-border g chroma outer inner inside r c horizontal luma true (cond inside (three g chroma outer inner inside r c vertical (at-border g chroma outer inner inside r c vertical luma true l)) (at-border g chroma outer inner inside r c vertical luma true l)))
-      ≡ luma_from outer inner inside h (stride g luma) (corner g r c luma) first below r c l
-  unfolding luma_from three at-border
-  luma-is chroma h first below l eh h4 ef eb =
-      ap (λ (x : Worked). in_h (at_top (in_v x))) (left_is g r c luma outer l ∙ ap (λ (n : ℕ). left_from outer n 16 (stride g luma) (corner g r c luma) c l) eh)
-      ∙ ap (λ (x : Worked). in_h (at_top x)) (inV-is (left_from outer h 16 (stride g luma) (corner g r c luma) c l))
-      ∙ ap in_h (top-is g r c luma outer mid ∙ ap (λ (n : ℕ). top_from outer n 16 (stride g luma) (corner g r c luma) r mid) eh)
-      ∙ inH-is (top_from outer h 16 (stride g luma) (corner g r c luma) r mid)
-    where
-      mid : Worked
-      mid = let x = left_from outer h 16 (stride g luma) (corner g r c luma) c l in cond inside (three_vertical inner (stride g luma) first x) x
-
-      in_v : Worked → Worked
-      in_v x = cond inside (three g chroma outer inner inside r c vertical x) x
-
-      in_h : Worked → Worked
-      in_h x = cond inside (three g chroma outer inner inside r c horizontal x) x
-
-      at_top : Worked → Worked
-      at_top x = at-border g chroma outer inner inside r c horizontal luma true x
-
-      inV-is : (x : Worked) → in_v x ≡ cond inside (three_vertical inner (stride g luma) first x) x
-      inV-is x = if-so inside _ _ x (λ _. three-v g r c inner x first h4 ef)
-
-      inH-is : (x : Worked) → in_h x ≡ cond inside (three_horizontal inner (stride g luma) below x) x
-      inH-is x = if-so inside _ _ x (λ _. three-h g r c inner x below h4 eb)
+      ≡ plane_from outer inner inside 16 (square g r c luma) l
+  unfolding plane_from at-border
+  luma-is chroma l =
+      three-is g chroma outer inner inside r c horizontal _
+      ∙ ap (inner_from horizontal inner inside 16 (square g r c luma))
+      (top-is g r c luma outer _
+      ∙ ap (top_from outer 16 (square g r c luma))
+      (three-is g chroma outer inner inside r c vertical _ ∙ ap (inner_from vertical inner inside 16 (square g r c luma)) (left_is g r c luma outer l)))
 
   -- a chroma plane under the normal filter
-  chroma-is : (q : Plane) (l : Worked) → side q ≡ 8 → half outer ≡ 4 → half inner ≡ 4
+  chroma-is : (q : Plane) (l : Worked) → side q ≡ 8
       → one g true outer inner inside r c horizontal q (at-border g true outer inner inside r c horizontal q true (one g true outer inner inside r c vertical q (at-border g true outer inner inside r c vertical q true l)))
-      ≡ chroma_from outer inner inside (stride g q) (corner g r c q) r c l
-  unfolding chroma_from one at-border
-  chroma-is q l e8 eo ei =
-      ap (λ (x : Worked). in_h (at_top (in_v x))) (left_is g r c q outer l ∙ ap₂ (λ (n z : ℕ). left_from outer n z (stride g q) (corner g r c q) c l) eo e8)
-      ∙ ap (λ (x : Worked). in_h (at_top x)) (inV-is (left_from outer 4 8 (stride g q) (corner g r c q) c l))
-      ∙ ap in_h (top-is g r c q outer mid ∙ ap₂ (λ (n z : ℕ). top_from outer n z (stride g q) (corner g r c q) r mid) eo e8)
-      ∙ inH-is (top_from outer 4 8 (stride g q) (corner g r c q) r mid)
-    where
-      in_v : Worked → Worked
-      in_v x = cond inside (work_edge g r c (edge_of q vertical 4 inner) x) x
-
-      in_h : Worked → Worked
-      in_h x = cond inside (work_edge g r c (edge_of q horizontal 4 inner) x) x
-
-      at_top : Worked → Worked
-      at_top x = cond (ltb 0 r) (work_edge g r c (edge_of q horizontal 0 outer) x) x
-
-      mid : Worked
-      mid = let x = left_from outer 4 8 (stride g q) (corner g r c q) c l in cond inside (along vertical inner (stride g q) (corner g r c q) 8 x) x
-
-      first : corner g r c q + (4 - half inner) ≡ corner g r c q
-      first = omega arith
-
-      below : corner g r c q + (4 - half inner) * stride g q ≡ corner g r c q
-      below = ap (λ (n : ℕ). corner g r c q + (4 - n) * stride g q) ei ∙ omega arith
-
-      inV-is : (x : Worked) → in_v x ≡ cond inside (along vertical inner (stride g q) (corner g r c q) 8 x) x
-      inV-is x = if-so inside _ _ x (λ _. inner-v g r c q 4 inner x (omega arith) ∙ ap₂ (λ (b z : ℕ). along vertical inner (stride g q) b z x) first e8)
-
-      inH-is : (x : Worked) → in_h x ≡ cond inside (along horizontal inner (stride g q) (corner g r c q) 8 x) x
-      inH-is x = if-so inside _ _ x (λ _. inner-h g r c q 4 inner x (omega arith) ∙ ap₂ (λ (b z : ℕ). along horizontal inner (stride g q) b z x) below e8)
+      ≡ plane_from outer inner inside (side q) (square g r c q) l
+  unfolding plane_from at-border
+  chroma-is q l e8 =
+      one-is g true outer inner inside r c horizontal q _ refl e8
+      ∙ ap (inner_from horizontal inner inside (side q) (square g r c q))
+      (top-is g r c q outer _
+      ∙ ap (top_from outer (side q) (square g r c q))
+      (one-is g true outer inner inside r c vertical q _ refl e8 ∙ ap (inner_from vertical inner inside (side q) (square g r c q)) (left_is g r c q outer l)))
 
 -- a plane that the simple filter leaves alone
 none_is : (g : Grid) (outer inner : Kernel) (inside : Bool) (r c : ℕ) (q : Plane) (l : Worked)
@@ -257,44 +209,18 @@ none_is g outer inner inside r c q l = same inside _ ∙ same (ltb 0 r) _ ∙ sa
 
 module _ (g : Grid) (m : ℕ) (r c : ℕ) (er : grid_row g m ≡ r) (ec : grid_column g m ≡ c) (outer inner : Kernel) (inside : Bool) (p : WorkedPlanes) where
   -- the step under the normal filter
-  pub normal-step : half outer ≡ 4 → half inner ≡ 4
-      → work_macroblock g (λ _. filter true outer inner inside) m p
-      ≡ record {
-        y = luma_from outer inner inside 4 (stride g luma) (corner g r c luma) (corner g r c luma) (corner g r c luma) r c p.y;
-        u = chroma_from outer inner inside (stride g chroma_u) (corner g r c chroma_u) r c p.u;
-        v = chroma_from outer inner inside (stride g chroma_v) (corner g r c chroma_v) r c p.v;
-      }
-  normal-step eo ei =
+  pub normal-step :
+      work_macroblock g (λ _. filter true outer inner inside) m p
+      ≡ record { y = plane_from outer inner inside 16 (square g r c luma) p.y; u = plane_from outer inner inside 8 (square g r c chroma_u) p.u; v = plane_from outer inner inside 8 (square g r c chroma_v) p.v }
+  normal-step =
       step_is g true outer inner inside m p r c er ec
-      ∙ (λ i. record {
-        y = luma-is g outer inner inside r c true 4 (corner g r c luma) (corner g r c luma) p.y eo (omega arith) (sym first) (sym below) i;
-        u = chroma-is g outer inner inside r c chroma_u p.u refl eo ei i;
-        v = chroma-is g outer inner inside r c chroma_v p.v refl eo ei i;
-      })
-    where
-      first : corner g r c luma + (4 - half inner) ≡ corner g r c luma
-      first = omega arith
-
-      below : corner g r c luma + (4 - half inner) * stride g luma ≡ corner g r c luma
-      below = ap (λ (n : ℕ). corner g r c luma + (4 - n) * stride g luma) ei ∙ omega arith
+      ∙ (λ i. record { y = luma-is g outer inner inside r c true p.y i; u = chroma-is g outer inner inside r c chroma_u p.u refl i; v = chroma-is g outer inner inside r c chroma_v p.v refl i })
 
   -- the step under the simple filter: luma alone
-  pub simple-step : half outer ≡ 2 → half inner ≡ 2
-      → work_macroblock g (λ _. filter false outer inner inside) m p
-      ≡ record { y = luma_from outer inner inside 2 (stride g luma) (corner g r c luma) (corner g r c luma + 2) (corner g r c luma + 2 * stride g luma) r c p.y; u = p.u; v = p.v }
-  simple-step eo ei =
+  pub simple-step : work_macroblock g (λ _. filter false outer inner inside) m p ≡ record { y = plane_from outer inner inside 16 (square g r c luma) p.y; u = p.u; v = p.v }
+  simple-step =
       step_is g false outer inner inside m p r c er ec
-      ∙ (λ i. record {
-        y = luma-is g outer inner inside r c false 2 (corner g r c luma + 2) (corner g r c luma + 2 * stride g luma) p.y eo (omega arith) first below i;
-        u = none_is g outer inner inside r c chroma_u p.u i;
-        v = none_is g outer inner inside r c chroma_v p.v i;
-      })
-    where
-      first : corner g r c luma + 2 ≡ corner g r c luma + (4 - half inner)
-      first = omega arith
-
-      below : corner g r c luma + 2 * stride g luma ≡ corner g r c luma + (4 - half inner) * stride g luma
-      below = ap (λ (n : ℕ). corner g r c luma + (4 - n) * stride g luma) (sym ei)
+      ∙ (λ i. record { y = luma-is g outer inner inside r c false p.y i; u = none_is g outer inner inside r c chroma_u p.u i; v = none_is g outer inner inside r c chroma_v p.v i })
 
 -- ---- what the code's planes and totals come to
 

@@ -5,7 +5,7 @@ use native.Mathlib.Nat.{add-mul, mul-le-mul_left, mul-le-mul_right, mod-lt, div-
 use native.Mathlib.Omega.{arith}
 use lib.ListN.{length}
 use Rattle.planes.specs.Planes.{Plane, Planes, Grid, side, stride, plane, macroblocks, grid_row, grid_column, StridesHold, PlanesHold}
-use Rattle.frame.specs.Private.PlaneEdges.{Square}
+use Rattle.frame.specs.Private.PlaneEdges.{Inside, square_at}
 use Rattle.planes.proofs.Fits.{side-least, factor-positive, square-within}
 
 -- a product is at least its factor
@@ -19,10 +19,10 @@ pub column-in : (g : Grid) (m : ℕ) → m < macroblocks g → grid_column g m <
 column-in g m h = mod-lt m (factor-positive g.columns g.rows m h)
 
 -- the square of z samples in row r, column c of a grid that lies in a plane of n samples
-square-in : (z s r c rows columns n : ℕ) → 4 ≤ z → r < rows → c < columns → z * columns ≤ s → (z * rows - 1) * s + z * columns ≤ n → Square z s (z * r * s + z * c) r c n
+square-in : (z s r c rows columns n : ℕ) → 4 ≤ z → r < rows → c < columns → z * columns ≤ s → (z * rows - 1) * s + z * columns ≤ n → Inside z (square_at z s r c) n
 square-in z s r c rows columns n hz hr hc hs hn =
     record {
-      inside =
+      within =
           omega (arith, square-within z c columns hc, add-mul (z * r) (z - 1) s, mul-le-mul_right s last);
       left = λ h. omega (arith, mul-le-mul_left z h);
       above = λ h. omega (arith, mul-le-mul_right s (up h));
@@ -37,7 +37,7 @@ square-in z s r c rows columns n hz hr hc hs hn =
 
 -- of a macroblock of the grid
 pub square-of : (g : Grid) (p : Planes) (m : ℕ) → StridesHold g → PlanesHold g p → m < macroblocks g → (q : Plane)
-    → Square (side q) (stride g q) (side q * grid_row g m * stride g q + side q * grid_column g m) (grid_row g m) (grid_column g m) (length (plane q p))
+    → Inside (side q) (square_at (side q) (stride g q) (grid_row g m) (grid_column g m)) (length (plane q p))
 unfolding StridesHold PlanesHold
 square-of g p m strides planes h q =
     square-in (side q) (stride g q) (grid_row g m) (grid_column g m) g.rows g.columns (length (plane q p)) (omega (arith, side-least q)) (row_in g m h) (column-in g m h) (strides q) (planes q)

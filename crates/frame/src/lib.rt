@@ -2,10 +2,8 @@
 #![tactic(auto)]
 
 mod decode;
-mod normal;
+mod edge;
+pub mod entries;
 pub mod pass;
-pub mod record_pass;
-mod record_step;
-mod simple;
+mod plane;
 mod step;
-mod total;

@@ -1,124 +1,82 @@
 // The step of one macroblock (RFC 6386, section 15.1). No plane's edges depend on another plane's samples, so each plane is done whole.
-ghost use Rattle.std.specs.Prelude.{◌+◌, ◌*◌, ◌/◌, ◌%◌, ◌≤◌, ◌<◌, length};
-ghost use Rattle.kernels.specs.Segment.{simple_segment};
-ghost use Rattle.planes.specs.Layout.{grid_of, planes_of};
-ghost use Rattle.edges.specs.NormalKernels.{outer_of, inner_of};
+ghost use Rattle.std.specs.Prelude.{◌≡◌, ◌≤◌, ◌<◌};
+ghost use Rattle.planes.specs.Layout.{grid_of};
+ghost use Rattle.planes.specs.Pictures.{planes_lent, SameLoans};
 ghost use Rattle.calls.specs.Pass.{plan_at, plan_with};
-ghost use Rattle.frame.specs.Private.PlaneEdges.{Square, Did, luma_from, chroma_from};
+ghost use Rattle.frame.specs.Private.PlaneEdges.{square_at};
 ghost use Rattle.planes.specs.Planes.{macroblocks};
 ghost use Rattle.frame.specs.Private.Ranges.{Sound, Stepped};
 
-use crate::{normal, simple};
+use crate::edge::{Inner, Outer, Simple};
+use crate::plane::{Square, filter_plane};
 use arithmetic::limits::LoopFilterParams;
+use judge::entries::MacroblockPlan;
 use levels::config::FrameFilterConfig;
 use limit_table::table::limits_at;
 use planes::layout::PlaneLayout;
+use planes::picture::PictureMut;
 
-// The luma plane under the normal filter.
-fn normal_luma(
-    plane: &mut [u8],
-    stride: usize,
-    row: usize,
-    column: usize,
-    limits: LoopFilterParams,
-    inside: bool,
-) -> usize
-    requires { Square 16 stride (16 * row * stride + 16 * column) row column (length plane.old) }
-    ensures { Did 128 (luma_from (outer_of limits) (inner_of limits) inside 4 stride (16 * row * stride + 16 * column)
-        (16 * row * stride + 16 * column) (16 * row * stride + 16 * column) row column) plane.old plane.new result }
+// The square of `side` samples of the macroblock in this row and column.
+fn square(side: usize, stride: usize, row: usize, column: usize) -> Square
+    requires side_bound { side ≤ 16 }
+    requires stride_bound { stride ≤ 65536 }
+    requires row_bound { row ≤ 1024 }
+    requires column_bound { column ≤ 1024 }
+    ensures { result ≡ square_at side stride row column }
 {
-    let corner = 16 * row * stride + 16 * column;
-    normal::luma(plane, stride, corner, row, column, limits, inside)
-}
-
-// A chroma plane under the normal filter.
-fn normal_chroma(
-    plane: &mut [u8],
-    stride: usize,
-    row: usize,
-    column: usize,
-    limits: LoopFilterParams,
-    inside: bool,
-) -> usize
-    requires { Square 8 stride (8 * row * stride + 8 * column) row column (length plane.old) }
-    ensures { Did 32 (chroma_from (outer_of limits) (inner_of limits) inside stride (8 * row * stride + 8 * column) row column) plane.old plane.new result }
-{
-    let corner = 8 * row * stride + 8 * column;
-    normal::chroma(plane, stride, corner, row, column, limits, inside)
-}
-
-// The luma plane under the simple filter.
-fn simple_luma(
-    plane: &mut [u8],
-    stride: usize,
-    row: usize,
-    column: usize,
-    limits: LoopFilterParams,
-    inside: bool,
-) -> usize
-    requires { Square 16 stride (16 * row * stride + 16 * column) row column (length plane.old) }
-    ensures { Did 128 (luma_from (simple_segment limits.mbedge_limit) (simple_segment limits.sub_bedge_limit) inside 2 stride (16 * row * stride + 16 * column)
-        (16 * row * stride + 16 * column + 2) (16 * row * stride + 16 * column + 2 * stride) row column) plane.old plane.new result }
-{
-    let corner = 16 * row * stride + 16 * column;
-    simple::luma(
-        plane,
+    Square {
         stride,
-        corner,
+        corner: side * row * stride + side * column,
         row,
         column,
-        limits.mbedge_limit,
-        limits.sub_bedge_limit,
-        inside,
-    )
+    }
 }
 
 // Macroblock m, whose level is not 0, with its limits.
 fn filter_with(
-    y: &mut [u8],
-    u: &mut [u8],
-    v: &mut [u8],
+    picture: &mut PictureMut<'_>,
     layout: PlaneLayout,
     simple: bool,
     m: usize,
     limits: LoopFilterParams,
     inside: bool,
 ) -> usize
-    requires sound { Sound layout y.old u.old v.old }
+    requires sound { Sound layout picture.old.y.now picture.old.u.now picture.old.v.now }
     requires m_bound { m < macroblocks (grid_of layout) }
-    ensures { Stepped layout (plan_with simple limits inside) m (planes_of y.old u.old v.old)
-        (planes_of y.new u.new v.new) result }
+    ensures loans { SameLoans picture.old picture.new }
+    ensures stepped { Stepped layout (plan_with simple limits inside) m (planes_lent picture.old) (planes_lent picture.new) result }
 {
     let row = m / layout.mb_cols;
     let column = m % layout.mb_cols;
+    let luma = square(16, layout.y_stride, row, column);
     if simple {
-        simple_luma(y, layout.y_stride, row, column, limits, inside)
+        let (outer, inner) = (Simple(limits.mbedge_limit), Simple(limits.sub_bedge_limit));
+        filter_plane::<Simple, Simple, 16>(outer, inner, picture.y, luma, inside)
     } else {
-        let a = normal_luma(y, layout.y_stride, row, column, limits, inside);
-        let b = a + normal_chroma(u, layout.uv_stride, row, column, limits, inside);
-        b + normal_chroma(v, layout.uv_stride, row, column, limits, inside)
+        let chroma = square(8, layout.uv_stride, row, column);
+        let (outer, inner) = (Outer(limits), Inner(limits));
+        let a = filter_plane::<Outer, Inner, 16>(outer, inner, picture.y, luma, inside);
+        let b = a + filter_plane::<Outer, Inner, 8>(outer, inner, picture.u, chroma, inside);
+        b + filter_plane::<Outer, Inner, 8>(outer, inner, picture.v, chroma, inside)
     }
 }
 
-// Macroblock m at its level, with its inner edges or without.
+// Macroblock m by its plan: at its level, with its inner edges or without.
 pub(crate) fn filter_macroblock(
-    y: &mut [u8],
-    u: &mut [u8],
-    v: &mut [u8],
+    picture: &mut PictureMut<'_>,
     layout: PlaneLayout,
     config: FrameFilterConfig,
     m: usize,
-    level: u8,
-    inside: bool,
+    plan: MacroblockPlan,
 ) -> usize
-    requires sound { Sound layout y.old u.old v.old }
+    requires sound { Sound layout picture.old.y.now picture.old.u.now picture.old.v.now }
     requires m_bound { m < macroblocks (grid_of layout) }
-    ensures { Stepped layout (plan_at config level inside) m (planes_of y.old u.old v.old)
-        (planes_of y.new u.new v.new) result }
+    ensures loans { SameLoans picture.old picture.new }
+    ensures stepped { Stepped layout (plan_at config plan.level plan.inside) m (planes_lent picture.old) (planes_lent picture.new) result }
 {
-    let limits = limits_at(level, config.sharpness_level, config.key_frame);
-    if level != 0 {
-        filter_with(y, u, v, layout, config.simple, m, limits, inside)
+    let limits = limits_at(plan.level, config.sharpness_level, config.key_frame);
+    if plan.level != 0 {
+        filter_with(picture, layout, config.simple, m, limits, plan.inside)
     } else {
         0
     }

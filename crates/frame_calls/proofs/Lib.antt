@@ -3,5 +3,5 @@ pub mod SkipLaws
 pub mod FrameRecords
 -- Demand 3, and the rows that may be sent.
 pub mod FrameDemand3
--- The settings that are handed to the pass.
-pub mod SettingsLaws
+-- What the code does.
+pub mod Framed

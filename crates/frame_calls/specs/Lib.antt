@@ -2,5 +2,3 @@
 pub mod Skip
 -- calls at header level 0, computed
 pub mod SkipExamples
--- what private functions promise each other: steps of the proof, which no public contract cites
-pub mod Private

@@ -13,7 +13,7 @@ use Rattle.planes.specs.Planes.{Planes}
 use Rattle.planes.specs.Edges.{first_row, first_column, edge_tap, filter_edge, borders, insides, places}
 use Rattle.planes.specs.Macroblock.{only, edge_at, edges_at, filter_edges, filter_macroblock}
 use Rattle.planes.specs.GridRefusals.{zero_grid, too_large, bad_strides, needed, short_planes, after_grid}
-use Rattle.calls.specs.Entries.{KeyCarried, InterCarried, segment_byte, key_record, no_record, entry_of, key_entry, inter_entry, length_is_not, key_lengths_wrong, inter_lengths_wrong, any_of, key_bad_entry, inter_bad_entry}
+use Rattle.calls.specs.Entries.{KeyCarried, InterCarried, segment_byte, key_record, no_record, entry_of, key_entry, inter_entry, length_is_not, key_lengths_wrong, inter_lengths_wrong, key_bad_entry, inter_bad_entry}
 use Rattle.calls.specs.Pass.{Call, key_pass, inter_pass, is_b, inside_of, plan_with, plan_at, key_plan, inter_plan, refusal, step, count, next, answer, planes_after}
 use Rattle.calls.specs.ExampleCalls.{key_grid, key_example_lists, key_example_records, key₀, key₃, without_last_row, inter_grid, inter_example_lists, inter₀, inter₂}
 use Rattle.frame_calls.specs.Skip.{filter_off, key_frame_pass, inter_frame_pass, frame_call}
@@ -88,7 +88,7 @@ unfolding clamp u2s s2u shr at_least_one interior_limit hev_threshold mbedge_lim
     levels.clamp_level levels.segment_number levels.level_in_segment levels.base_level levels.segment_level levels.ref_delta levels.intra_mode_delta levels.inter_mode_delta levels.mode_delta
     levels.adjusted_level levels.inter_level levels.key_level levels.level_of levels.key_level_of
     steps first_row first_column edge_tap filter_edge borders insides places only edge_at edges_at filter_edges filter_macroblock
-    zero_grid too_large bad_strides needed short_planes after_grid entry_of key_entry inter_entry segment_byte key_record no_record length_is_not key_lengths_wrong inter_lengths_wrong any_of key_bad_entry inter_bad_entry
+    zero_grid too_large bad_strides needed short_planes after_grid entry_of key_entry inter_entry segment_byte key_record no_record length_is_not key_lengths_wrong inter_lengths_wrong key_bad_entry inter_bad_entry
     is_b inside_of plan_with plan_at key_plan inter_plan refusal step count next answer planes_after filter_off
 skip-shown = record {
   key-filtered = refl;

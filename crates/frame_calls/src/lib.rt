@@ -2,5 +2,3 @@
 #![tactic(auto)]
 
 pub mod frame_call;
-pub mod record_frame_call;
-mod settings;

@@ -1,9 +1,9 @@
--- What the judge of a pass sees of a call, and what it decides: the answer and the macroblocks to do. Nothing is smoothed yet, so that its answers have the total 0. `proofs/Judgement.antt` shows that the answer is `answer` and that the macroblocks are those of `planes_after`.
-use Rattle.std.specs.Prelude.{Bool, cond, not, ◌||◌, ℕ, ◌+◌, ◌-◌, min, ltb, eqb}
+-- What the judge of a pass sees of a call, and what it decides: the macroblocks to do, or the refusal. `proofs/Judgement.antt` shows that the answer is `answer` and that the macroblocks are those of `planes_after`.
+use Rattle.std.specs.Prelude.{Bool, cond, ℕ, ◌+◌, ◌-◌, min, ltb, Result, Ok, Err}
 use Rattle.planes.specs.Planes.{Grid, macroblocks}
 use Rattle.planes.specs.GridRefusals.{zero_grid, too_large, bad_strides, short_by}
-use Rattle.calls.specs.declared.answers.PassAnswer.{PassAnswer}
-use Rattle.calls.specs.declared.answers.PassAnswer.TheVariants.{Done, Refused}
+use Rattle.calls.specs.declared.answers.Done.{Done}
+use Rattle.calls.specs.declared.answers.PassRefusal.{PassRefusal}
 use Rattle.calls.specs.declared.answers.PassRefusal.TheVariants.{TooLarge, BadStrides, ShortPlane, WrongLength, BadEntry, StartBeyond}
 use Rattle.judge.specs.declared.batch.Batch.{Batch}
 
@@ -31,30 +31,28 @@ seen g y u v wrong_length bad_entry start allowance = record {
   allowance = allowance;
 }
 
--- 5: the lists are not alike in length, or the first has not n entries
-unfoldable pub lengths_wrong : (alike : Bool) → (entries n : ℕ) → Bool
-lengths_wrong alike entries n = not alike || not (eqb entries n)
+abbrev pub none_to_do : Batch
+none_to_do = record { «done» = record { «count» = 0; «next» = 0; «smoothed» = 0 }; «from» = 0; «to» = 0 }
 
--- an answer with nothing to do
-abbrev pub idle_batch : PassAnswer → Batch
-idle_batch a = record { answer = a; from = 0; to = 0 }
+-- the lesser of the allowance and the macroblocks left, from start on
+abbrev pub accepted_batch : (n start allowance : ℕ) → Batch
+accepted_batch n start allowance = record {
+  «done» = record { «count» = min allowance (n - start); «next» = start + min allowance (n - start); «smoothed» = 0 };
+  «from» = start;
+  «to» = start + min allowance (n - start);
+}
 
-unfoldable pub accepted_batch : (n start allowance : ℕ) → Batch
-accepted_batch n start allowance =
-    record { answer = Done (min allowance (n - start)) (start + min allowance (n - start)) 0; from = start; to = start + min allowance (n - start) }
+-- the answer when a batch is done, with what it smoothed
+abbrev pub done_of : Batch → (smoothed : ℕ) → Done
+done_of b smoothed = record { «count» = b.«done».«count»; «next» = b.«done».«next»; «smoothed» = smoothed }
 
--- an answer with its total, which a refusal has not
-abbrev pub with_total : PassAnswer → (smoothed : ℕ) → PassAnswer
-with_total (Done count next none) smoothed = Done count next smoothed
-with_total (Refused r) smoothed = Refused r
-
-unfoldable pub batch_of : Seen → Batch
+unfoldable pub batch_of : Seen → Result Batch PassRefusal
 batch_of s =
-    cond (zero_grid s.grid) (idle_batch (Done 0 0 0))
-    (cond (too_large s.grid) (idle_batch (Refused TooLarge))
-    (cond (bad_strides s.grid) (idle_batch (Refused BadStrides))
-    (cond (short_by s.grid s.y_length s.u_length s.v_length) (idle_batch (Refused ShortPlane))
-    (cond s.wrong_length (idle_batch (Refused WrongLength))
-    (cond s.bad_entry (idle_batch (Refused BadEntry))
-    (cond (ltb (macroblocks s.grid) s.start) (idle_batch (Refused StartBeyond))
-    (accepted_batch (macroblocks s.grid) s.start s.allowance)))))))
+    cond (zero_grid s.grid) (Ok none_to_do)
+    (cond (too_large s.grid) (Err TooLarge)
+    (cond (bad_strides s.grid) (Err BadStrides)
+    (cond (short_by s.grid s.y_length s.u_length s.v_length) (Err ShortPlane)
+    (cond s.wrong_length (Err WrongLength)
+    (cond s.bad_entry (Err BadEntry)
+    (cond (ltb (macroblocks s.grid) s.start) (Err StartBeyond)
+    (Ok (accepted_batch (macroblocks s.grid) s.start s.allowance))))))))

@@ -1,15 +1,18 @@
-// What the kernels answer. `specs/Answers.antt` gives each case its number in document 01.
-
-// The adjustment that q0 lost, or refusal 4.
-#[derive(Clone, Copy)]
-pub enum AdjustAnswer {
-    AdjustedBy(i32),
-    NoWindowToAdjust,
+// Why a kernel is refused. `specs/Answers.antt` gives the case its number in document 01.
+#[derive(Clone, Copy, Debug, PartialEq, Eq)]
+pub enum KernelRefusal {
+    NoWindow,
 }
 
-// Done, and whether the kernel's test passed; or refusal 4.
-#[derive(Clone, Copy)]
-pub enum KernelAnswer {
-    Done(bool),
-    NoWindow,
+impl From<KernelRefusal> for u8 {
+    ghost use Rattle.std.specs.Prelude.{◌≡◌};
+    ghost use Rattle.kernels.specs.Answers.{kernel_refusal_number};
+
+    ghost from_gives = { λ refusal n. n ≡ kernel_refusal_number refusal };
+
+    fn from(refusal: KernelRefusal) -> u8 {
+        match refusal {
+            KernelRefusal::NoWindow => 4,
+        }
+    }
 }

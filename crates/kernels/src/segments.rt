@@ -4,7 +4,7 @@ ghost use Rattle.kernels.specs.Answers.{adjust_outcome, kernel_outcome};
 ghost use Rattle.kernels.specs.Kernels.{adjustment, simple_yes};
 ghost use Rattle.kernels.specs.Segment.{common_adjust, simple_segment, subblock_filter, mb_filter, segment, windowed, window_answer, adjust_answer};
 
-use crate::answers::{AdjustAnswer, KernelAnswer};
+use crate::answers::KernelRefusal;
 use crate::passed::{mb_filter_passed, subblock_filter_passed};
 use crate::values::simple_yes;
 use crate::whole::adjust;
@@ -32,14 +32,19 @@ fn common_adjust_at(outer: bool, seg: &mut [u8], base: usize) -> i64
     adjust(outer, seg, base + 1, p1, p0, q0, q1)
 }
 
-pub fn common_adjust(use_outer_taps: bool, seg: &mut [u8], base: usize) -> AdjustAnswer
+#[tactic(auto, unfolding(crate::specs::Segment::adjust_answer, crate::specs::Segment::windowed, crate::specs::Segment::fits_at, crate::specs::Segment::taps, crate::specs::Segment::half))]
+pub fn common_adjust(
+    use_outer_taps: bool,
+    seg: &mut [u8],
+    base: usize,
+) -> Result<i32, KernelRefusal>
     ensures result_value { adjust_outcome result ≡ adjust_answer use_outer_taps seg.old base }
     ensures seg_after { seg.new ≡ windowed (common_adjust use_outer_taps) seg.old base }
 {
     if has_window(seg.len(), 4, base) {
-        AdjustAnswer::AdjustedBy(common_adjust_at(use_outer_taps, seg, base) as i32)
+        Ok(common_adjust_at(use_outer_taps, seg, base) as i32)
     } else {
-        AdjustAnswer::NoWindowToAdjust
+        Err(KernelRefusal::NoWindow)
     }
 }
 
@@ -61,53 +66,50 @@ fn simple_segment_passed(edge: u8, seg: &mut [u8], base: usize) -> bool
     }
 }
 
-pub fn simple_segment(edge_limit: u8, seg: &mut [u8], base: usize) -> KernelAnswer
+#[tactic(auto, unfolding(crate::specs::Segment::window_answer, crate::specs::Segment::windowed, crate::specs::Segment::fits_at, crate::specs::Segment::taps, crate::specs::Segment::half))]
+pub fn simple_segment(edge_limit: u8, seg: &mut [u8], base: usize) -> Result<bool, KernelRefusal>
     ensures result_value { kernel_outcome result ≡ window_answer (simple_segment edge_limit) seg.old base }
     ensures seg_after { seg.new ≡ windowed (simple_segment edge_limit) seg.old base }
 {
     if has_window(seg.len(), 4, base) {
-        KernelAnswer::Done(simple_segment_passed(edge_limit, seg, base))
+        Ok(simple_segment_passed(edge_limit, seg, base))
     } else {
-        KernelAnswer::NoWindow
+        Err(KernelRefusal::NoWindow)
     }
 }
 
+#[tactic(auto, unfolding(crate::specs::Segment::window_answer, crate::specs::Segment::windowed, crate::specs::Segment::fits_at, crate::specs::Segment::taps, crate::specs::Segment::half))]
 pub fn subblock_filter(
     hev_threshold: u8,
     interior_limit: u8,
     edge_limit: u8,
     seg: &mut [u8],
     base: usize,
-) -> KernelAnswer
+) -> Result<bool, KernelRefusal>
     ensures result_value { kernel_outcome result ≡ window_answer (subblock_filter hev_threshold interior_limit edge_limit) seg.old base }
     ensures seg_after { seg.new ≡ windowed (subblock_filter hev_threshold interior_limit edge_limit) seg.old base }
 {
     if has_window(seg.len(), 8, base) {
-        KernelAnswer::Done(subblock_filter_passed(
-            hev_threshold,
-            interior_limit,
-            edge_limit,
-            seg,
-            base,
-        ))
+        Ok(subblock_filter_passed(hev_threshold, interior_limit, edge_limit, seg, base))
     } else {
-        KernelAnswer::NoWindow
+        Err(KernelRefusal::NoWindow)
     }
 }
 
+#[tactic(auto, unfolding(crate::specs::Segment::window_answer, crate::specs::Segment::windowed, crate::specs::Segment::fits_at, crate::specs::Segment::taps, crate::specs::Segment::half))]
 pub fn mb_filter(
     hev_threshold: u8,
     interior_limit: u8,
     edge_limit: u8,
     seg: &mut [u8],
     base: usize,
-) -> KernelAnswer
+) -> Result<bool, KernelRefusal>
     ensures result_value { kernel_outcome result ≡ window_answer (mb_filter hev_threshold interior_limit edge_limit) seg.old base }
     ensures seg_after { seg.new ≡ windowed (mb_filter hev_threshold interior_limit edge_limit) seg.old base }
 {
     if has_window(seg.len(), 8, base) {
-        KernelAnswer::Done(mb_filter_passed(hev_threshold, interior_limit, edge_limit, seg, base))
+        Ok(mb_filter_passed(hev_threshold, interior_limit, edge_limit, seg, base))
     } else {
-        KernelAnswer::NoWindow
+        Err(KernelRefusal::NoWindow)
     }
 }

@@ -1,31 +1,17 @@
 -- Laws of the coefficient test and of the first coefficient's place. Assumes nothing.
 use mathlib.Core.Path.{◌≡◌, refl, sym, ap, ◌∙◌}
+use Rattle.std.specs.Prelude.{◌≢◌}
 use mathlib.Core.Bool.{Bool, true, false, cond, ◌||◌}
 use mathlib.Core.List.{List, [], ◌∷◌, ◌++◌}
-use Prim.Native.Nat.{ℕ, zero, suc, ◌+◌, ◌-◌, ◌^◌, ◌≤◌, ◌<◌}
+use Prim.Native.Nat.{ℕ, zero, suc, ◌+◌, ◌≤◌, ◌<◌}
 use native.Mathlib.Nat.{le_antisymm, le_of_suc-le-suc, lt_of_not-le}
 use native.Mathlib.Omega.{arith}
-use borrow.Author.Count.{below_more}
-use borrow.Author.Rules.{sfits_of}
 use lib.Dec.{ltb, leb-zero, leb-suc-suc}
 use lib.IntN.{ℤ, pos, negsuc}
 use lib.ListN.{length, get_or}
-use lib.Signed.{mag}
-use mir.Syntax.{w16}
-use mir.Val.{to_z, of_z}
-use mir.Facts.{to_z-of_z}
 use Rattle.levels.specs.Coefficients.{is_not_zero, has_coeffs, first_coeff, IsFirst, FirstPlace}
 
 -- ---- a number, by the test of its bits
-
-pub not-zero : (z : ℤ) → (of_z w16 z ≡ 0 → ⊥) → is_not_zero z ≡ true
-unfolding is_not_zero
-not-zero (pos zero) h = absurd (h refl)
-not-zero (pos (suc n)) h = refl
-not-zero (negsuc n) h = refl
-
-pub is_zero : (z : ℤ) → mag z < 2 ^ 15 → of_z w16 z ≡ 0 → z ≡ pos 0
-is_zero z f e = sym (to_z-of_z {w = w16} (sfits_of f)) ∙ ap (to_z w16) e
 
 zero_of : (z : ℤ) → is_not_zero z ≡ false → z ≡ pos 0
 unfolding is_not_zero
@@ -77,28 +63,16 @@ same_place l i j f g = le_antisymm (le_of_suc-le-suc (lt_of_not-le (not_after l 
 
 -- ---- what the code finds
 
--- the numbers before a place are 0, and that at the place is not
-pub found : (l : List ℤ) (place : ℕ) → place < length l → ((k : ℕ) → k < place → get_or l k (pos 0) ≡ pos 0) → is_not_zero (get_or l place (pos 0)) ≡ true → place ≡ first_coeff l
-found l place h zeros e = same_place l place (first_coeff l) (record { within = omega arith; zeros-before = zeros; not-zero-there = λ i. e }) (first l)
-
--- all are 0
-pub none_found : (l : List ℤ) → ((k : ℕ) → k < length l → get_or l k (pos 0) ≡ pos 0) → length l ≡ first_coeff l
-none_found l zeros = same_place l (length l) (first_coeff l) (record { within = omega arith; zeros-before = zeros; not-zero-there = λ i. absurd (omega arith) }) (first l)
-
--- the numbers before the nth are 0, and so is the nth
-pub one_more : (l : List ℤ) (n : ℕ) → 1 ≤ n → ((k : ℕ) → k < n - 1 → get_or l k (pos 0) ≡ pos 0) → get_or l (n - 1) (pos 0) ≡ pos 0 → (k : ℕ) → k < n + 1 - 1 → get_or l k (pos 0) ≡ pos 0
-one_more l n h f e k i = below_more (λ k. get_or l k (pos 0) ≡ pos 0) (n - 1) f e k (omega arith)
-
 -- ---- the test
 
 tested : (b h : Bool) (place n : ℕ) → h ≡ ltb place n → (b || h) ≡ ltb (cond b 0 (suc place)) (suc n)
 tested true h place n e = sym (leb-suc-suc 0 n ∙ leb-zero n)
 tested false h place n e = e ∙ sym (leb-suc-suc (suc place) n)
 
-test : (l : List ℤ) → has_coeffs l ≡ ltb (first_coeff l) (length l)
+pub coeffs_first : (l : List ℤ) → has_coeffs l ≡ ltb (first_coeff l) (length l)
 unfolding has_coeffs first_coeff
-test [] = refl
-test (x ∷ xs) = tested (is_not_zero x) (has_coeffs xs) (first_coeff xs) (length xs) (test xs)
+coeffs_first [] = refl
+coeffs_first (x ∷ xs) = tested (is_not_zero x) (has_coeffs xs) (first_coeff xs) (length xs) (coeffs_first xs)
 
 -- ---- two parts
 
@@ -115,4 +89,15 @@ in_parts (x ∷ xs) m = parted (is_not_zero x) (has_coeffs xs) (first_coeff (xs 
 -- ---- what is promised
 
 pub first-place : (l : List ℤ) → FirstPlace l
-first-place l = record { first = first l; no_other = λ place f. same_place l place (first_coeff l) f (first l); test = test l; in_parts = in_parts l }
+first-place l = record { first = first l; no_other = λ place f. same_place l place (first_coeff l) f (first l); test = coeffs_first l; in_parts = in_parts l }
+
+is-set : (z : ℤ) → z ≢ pos 0 → is_not_zero z ≡ true
+unfolding is_not_zero
+is-set (pos zero) n = absurd (n refl)
+is-set (pos (suc m)) n = refl
+is-set (negsuc m) n = refl
+
+-- told by what the search through the list finds
+pub is_first_coeff : (l : List ℤ) (place : ℕ) → place ≤ length l → ((k : ℕ) → k < place → get_or l k (pos 0) ≡ pos 0) → (place < length l → get_or l place (pos 0) ≢ pos 0) → place ≡ first_coeff l
+is_first_coeff l place h zeros there =
+    same_place l place (first_coeff l) (record { within = h; zeros-before = zeros; not-zero-there = λ i. is-set (get_or l place (pos 0)) (there i) }) (first l)

@@ -1,4 +1,5 @@
 -- Laws of the levels. Assumes nothing.
+use Rattle.std.specs.Prelude.{Option, None, Ok, Err}
 use mathlib.Core.Path.{◌≡◌, refl, sym, ap, subst, ◌∙◌}
 use mathlib.Core.Bool.{Bool, true, false, cond, ◌||◌}
 use Prim.Native.Nat.{ℕ, ◌≤◌}
@@ -8,30 +9,31 @@ use lib.IntN.{ℤ, pos, negsuc, ◌+ℤ◌, nat_abs}
 use lib.Signed.{lt_z, non_neg}
 use mir.Syntax.{Width}
 use mir.Val.{to_z}
+use native.Mathlib.Omega.{arith}
+use Rattle.std.specs.Int.{int_min, int_max}
+use Rattle.std.proofs.lemmas.Grind.{common_steps}
 use Rattle.arithmetic.specs.Outcome.{Outcome, gives, refuses}
 use Rattle.levels.specs.Encodings.{mode_of, reference_of, inter_mode_of, mode_case, reference_case, inter_mode_case, bad_mode, bad_reference, bad_inter_mode, bad_entry}
 use Rattle.levels.specs.Levels.{clamp_level, segment_number, level_in_segment, base_level, segment_level, ref_delta, mode_delta, adjusted_level, inter_level, key_level, level_of, key_level_of, key_answer, inter_answer}
 use Rattle.levels.specs.declared.config.FrameFilterConfig.{FrameFilterConfig}
 use Rattle.levels.specs.declared.modes.IntraYMode.{IntraYMode}
-use Rattle.levels.specs.declared.modes.MaybeRef.{MaybeRef}
-use Rattle.levels.specs.declared.modes.MaybeRef.TheVariants as reference
-use Rattle.levels.specs.declared.modes.MaybeInter.{MaybeInter}
-use Rattle.levels.specs.declared.modes.MaybeInter.TheVariants as inter
-use Rattle.levels.specs.declared.cases.ModeCase.TheVariants.{Mode, NoMode}
-use Rattle.levels.specs.declared.cases.ReferenceCase.TheVariants.{Reference, NoReference}
-use Rattle.levels.specs.declared.cases.InterModeCase.TheVariants.{Inter, NoInter}
+use Rattle.levels.specs.declared.modes.RefFrame.{RefFrame}
+use Rattle.levels.specs.declared.modes.InterMode.{InterMode}
+use Rattle.levels.specs.Answers.{level_refusal_number}
+use Rattle.levels.specs.declared.answers.LevelRefusal.{LevelRefusal}
+use Rattle.levels.specs.declared.answers.LevelRefusal.TheVariants.{BadEntry}
 use Rattle.arithmetic.proofs.Ranges as R
 use Rattle.levels.proofs.Encodings.{mode-found, mode-refused, reference-found, reference-refused, inter-found, inter-refused}
 
 -- ---- the key level ignores references
 
-pub inter-at-none : (config : FrameFilterConfig) (segment : ℕ) (inter_mode : MaybeInter) (mode : IntraYMode) → inter_level config segment reference.Absent inter_mode mode ≡ key_level config segment mode
+pub inter_at_none : (config : FrameFilterConfig) (segment : ℕ) (inter_mode : Option InterMode) (mode : IntraYMode) → inter_level config segment None inter_mode mode ≡ key_level config segment mode
 unfolding inter_level key_level adjusted_level ref_delta mode_delta
-inter-at-none config segment inter_mode mode = refl
+inter_at_none config segment inter_mode mode = refl
 
 pub level-at-none : (config : FrameFilterConfig) (segment inter_mode mode : ℕ) → level_of config segment 0 inter_mode mode ≡ key_level_of config segment mode
 unfolding level_of key_level_of reference_of
-level-at-none config segment inter_mode mode = inter-at-none config segment (inter_mode_of inter_mode) (mode_of mode)
+level-at-none config segment inter_mode mode = inter_at_none config segment (inter_mode_of inter_mode) (mode_of mode)
 
 pub answer-at-none : (config : FrameFilterConfig) (segment inter_mode mode : ℕ) → inter_mode ≤ 5 → inter_answer config segment 0 inter_mode mode ≡ key_answer config segment mode
 unfolding inter_answer key_answer bad_entry bad_reference bad_inter_mode
@@ -41,6 +43,13 @@ answer-at-none config segment inter_mode mode h =
     same_answer : (b : Bool) (o : Outcome ℕ) → cond (b || false || false) (refuses 6) o ≡ cond b (refuses 6) o
     same_answer true o = refl
     same_answer false o = refl
+
+-- ---- the clamp, as std computes it
+
+pub level_limits : (v : ℤ) → int_max (pos 0) (int_min v (pos 63)) ≡ clamp_level v
+unfolding clamp_level
+level_limits (pos n) = grind (arith, common_steps)
+level_limits (negsuc n) = grind (arith, common_steps)
 
 -- ---- the clamp, by tests
 
@@ -76,12 +85,12 @@ clamp-small v =
 
 -- ---- a level is at most 63
 
-pub inter-small : (config : FrameFilterConfig) (segment : ℕ) (r : MaybeRef) (i : MaybeInter) (m : IntraYMode) → inter_level config segment r i m ≤ 63
+pub inter-small : (config : FrameFilterConfig) (segment : ℕ) (r : Option RefFrame) (i : Option InterMode) (m : IntraYMode) → inter_level config segment r i m ≤ 63
 unfolding inter_level
 inter-small config segment r i m = clamp-small (adjusted_level config segment r i m)
 
 pub key-small : (config : FrameFilterConfig) (segment : ℕ) (m : IntraYMode) → key_level config segment m ≤ 63
-key-small config segment m = rw (← inter-at-none config segment inter.Absent m) (inter-small config segment reference.Absent inter.Absent m)
+key-small config segment m = rw (← inter_at_none config segment None m) (inter-small config segment None None m)
 
 pub level-small : (config : FrameFilterConfig) (segment reference inter_mode mode : ℕ) → level_of config segment reference inter_mode mode ≤ 63
 unfolding level_of
@@ -112,7 +121,7 @@ module _ (config : FrameFilterConfig) (segment : ℕ) where
 
 -- ---- the deltas, by the mark
 
-module _ (config : FrameFilterConfig) (segment : ℕ) (r : MaybeRef) (i : MaybeInter) (m : IntraYMode) where
+module _ (config : FrameFilterConfig) (segment : ℕ) (r : Option RefFrame) (i : Option InterMode) (m : IntraYMode) where
   pub with-deltas : config.delta_enabled ≡ true → adjusted_level config segment r i m ≡ segment_level config segment +ℤ ref_delta config r +ℤ mode_delta config r i m
   unfolding adjusted_level
   with-deltas h = rw h
@@ -128,30 +137,28 @@ above p k b e = sym (ap (λ (v : ℤ). lt_z k v) p.val) ∙ e
 -- ---- the answers, by the cases of the bytes
 
 module _ (config : FrameFilterConfig) (segment mode : ℕ) where
-  pub key-refuses : mode_case mode ≡ NoMode → refuses 6 ≡ key_answer config segment mode
+  pub key_refuses : (e : LevelRefusal) → mode_case mode ≡ Err e → refuses (level_refusal_number e) ≡ key_answer config segment mode
   unfolding key_answer
-  key-refuses e = rw (mode-refused mode e)
+  key_refuses BadEntry e = rw (mode-refused mode e)
 
-  pub key-gives : (m : IntraYMode) (r : ℕ) → mode_case mode ≡ Mode m → r ≡ key_level config segment m → gives r ≡ key_answer config segment mode
+  pub key_gives : (m : IntraYMode) (r : ℕ) → mode_case mode ≡ Ok m → r ≡ key_level config segment m → gives r ≡ key_answer config segment mode
   unfolding key_answer key_level_of
-  key-gives m r e l = rw ((mode-found mode m e).0, (mode-found mode m e).1, l)
+  key_gives m r e l = rw ((mode-found mode m e).0, (mode-found mode m e).1, l)
 
 module _ (config : FrameFilterConfig) (segment reference inter_mode mode : ℕ) where
-  pub mode-refuses : mode_case mode ≡ NoMode → refuses 6 ≡ inter_answer config segment reference inter_mode mode
+  pub mode_refuses : (e : LevelRefusal) → mode_case mode ≡ Err e → refuses (level_refusal_number e) ≡ inter_answer config segment reference inter_mode mode
   unfolding inter_answer bad_entry
-  mode-refuses e = rw (mode-refused mode e)
+  mode_refuses BadEntry e = rw (mode-refused mode e)
 
-  module _ (m : IntraYMode) (e : mode_case mode ≡ Mode m) where
-    pub reference-refuses : reference_case reference ≡ NoReference → refuses 6 ≡ inter_answer config segment reference inter_mode mode
-    unfolding inter_answer bad_entry
-    reference-refuses f = rw ((mode-found mode m e).0, reference-refused reference f)
+  pub reference_refuses : (m : IntraYMode) → mode_case mode ≡ Ok m → (e : LevelRefusal) → reference_case reference ≡ Err e → refuses (level_refusal_number e) ≡ inter_answer config segment reference inter_mode mode
+  unfolding inter_answer bad_entry
+  reference_refuses m h BadEntry e = rw ((mode-found mode m h).0, reference-refused reference e)
 
-    module _ (b : MaybeRef) (f : reference_case reference ≡ Reference b) where
-      pub inter-refuses : inter_mode_case inter_mode ≡ NoInter → refuses 6 ≡ inter_answer config segment reference inter_mode mode
-      unfolding inter_answer bad_entry
-      inter-refuses w = rw ((mode-found mode m e).0, (reference-found reference b f).0, inter-refused inter_mode w)
+  pub inter_refuses : (m : IntraYMode) → mode_case mode ≡ Ok m → (b : Option RefFrame) → reference_case reference ≡ Ok b → (e : LevelRefusal) → inter_mode_case inter_mode ≡ Err e → refuses (level_refusal_number e) ≡ inter_answer config segment reference inter_mode mode
+  unfolding inter_answer bad_entry
+  inter_refuses m h b f BadEntry e = rw ((mode-found mode m h).0, (reference-found reference b f).0, inter-refused inter_mode e)
 
-      pub inter-gives : (i : MaybeInter) (r : ℕ) → inter_mode_case inter_mode ≡ Inter i → r ≡ inter_level config segment b i m → gives r ≡ inter_answer config segment reference inter_mode mode
-      unfolding inter_answer bad_entry level_of
-      inter-gives i r w l =
-          rw ((mode-found mode m e).0, (reference-found reference b f).0, (inter-found inter_mode i w).0, (mode-found mode m e).1, (reference-found reference b f).1, (inter-found inter_mode i w).1, l)
+  pub inter_gives : (m : IntraYMode) → mode_case mode ≡ Ok m → (b : Option RefFrame) → reference_case reference ≡ Ok b → (i : Option InterMode) → inter_mode_case inter_mode ≡ Ok i → (r : ℕ) → r ≡ inter_level config segment b i m → gives r ≡ inter_answer config segment reference inter_mode mode
+  unfolding inter_answer bad_entry level_of
+  inter_gives m h b f i w r l =
+      rw ((mode-found mode m h).0, (reference-found reference b f).0, (inter-found inter_mode i w).0, (mode-found mode m h).1, (reference-found reference b f).1, (inter-found inter_mode i w).1, l)

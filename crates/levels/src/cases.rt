@@ -1,68 +1,57 @@
-// The case that a byte of an entry stands for, or none (document 01, Option lists).
+// The case that a byte of an entry stands for, or refusal 6 (document 01, Option lists).
 ghost use Rattle.std.specs.Prelude.{◌≡◌};
-ghost use Rattle.levels.specs.Encodings.{mode_case, reference_case, inter_mode_case};
+ghost use Rattle.levels.specs.Encodings.{reference_case, inter_mode_case};
 
-use crate::modes::{InterMode, IntraYMode, MaybeInter, MaybeRef, RefFrame};
+use crate::answers::LevelRefusal;
+use crate::modes::{InterMode, IntraYMode, RefFrame};
 
-#[derive(Clone, Copy)]
-pub enum ModeCase {
-    Mode(IntraYMode),
-    NoMode,
-}
+impl TryFrom<u8> for IntraYMode {
+    type Error = LevelRefusal;
 
-#[derive(Clone, Copy)]
-pub enum ReferenceCase {
-    Reference(MaybeRef),
-    NoReference,
-}
+    ghost use Rattle.std.specs.Prelude.{◌≡◌};
+    ghost use Rattle.levels.specs.Encodings.{mode_case};
 
-#[derive(Clone, Copy)]
-pub enum InterModeCase {
-    Inter(MaybeInter),
-    NoInter,
-}
+    ghost try_from_gives = { λ byte r. r ≡ mode_case byte };
 
-// A byte above 4 has none.
-#[tactic(auto, unfolding(crate::specs::Encodings::mode_case))]
-pub fn mode_case(byte: u8) -> ModeCase
-    ensures { result ≡ mode_case byte }
-{
-    match byte {
-        0 => ModeCase::Mode(IntraYMode::Dc),
-        1 => ModeCase::Mode(IntraYMode::V),
-        2 => ModeCase::Mode(IntraYMode::H),
-        3 => ModeCase::Mode(IntraYMode::Tm),
-        4 => ModeCase::Mode(IntraYMode::B),
-        _ => ModeCase::NoMode,
+    #[tactic(auto, unfolding(crate::specs::Encodings::mode_case))]
+    fn try_from(byte: u8) -> Result<IntraYMode, LevelRefusal> {
+        match byte {
+            0 => Ok(IntraYMode::Dc),
+            1 => Ok(IntraYMode::V),
+            2 => Ok(IntraYMode::H),
+            3 => Ok(IntraYMode::Tm),
+            4 => Ok(IntraYMode::B),
+            5.. => Err(LevelRefusal::BadEntry),
+        }
     }
 }
 
-// A byte above 3 has none.
+// 0 stands for no reference.
 #[tactic(auto, unfolding(crate::specs::Encodings::reference_case))]
-pub fn reference_case(byte: u8) -> ReferenceCase
+pub fn reference_case(byte: u8) -> Result<Option<RefFrame>, LevelRefusal>
     ensures { result ≡ reference_case byte }
 {
     match byte {
-        0 => ReferenceCase::Reference(MaybeRef::Absent),
-        1 => ReferenceCase::Reference(MaybeRef::Present(RefFrame::Last)),
-        2 => ReferenceCase::Reference(MaybeRef::Present(RefFrame::Golden)),
-        3 => ReferenceCase::Reference(MaybeRef::Present(RefFrame::AltRef)),
-        _ => ReferenceCase::NoReference,
+        0 => Ok(None),
+        1 => Ok(Some(RefFrame::Last)),
+        2 => Ok(Some(RefFrame::Golden)),
+        3 => Ok(Some(RefFrame::AltRef)),
+        4.. => Err(LevelRefusal::BadEntry),
     }
 }
 
-// A byte above 5 has none.
+// 0 stands for no inter mode.
 #[tactic(auto, unfolding(crate::specs::Encodings::inter_mode_case))]
-pub fn inter_mode_case(byte: u8) -> InterModeCase
+pub fn inter_mode_case(byte: u8) -> Result<Option<InterMode>, LevelRefusal>
     ensures { result ≡ inter_mode_case byte }
 {
     match byte {
-        0 => InterModeCase::Inter(MaybeInter::Absent),
-        1 => InterModeCase::Inter(MaybeInter::Present(InterMode::Zero)),
-        2 => InterModeCase::Inter(MaybeInter::Present(InterMode::Nearest)),
-        3 => InterModeCase::Inter(MaybeInter::Present(InterMode::Near)),
-        4 => InterModeCase::Inter(MaybeInter::Present(InterMode::New)),
-        5 => InterModeCase::Inter(MaybeInter::Present(InterMode::Split)),
-        _ => InterModeCase::NoInter,
+        0 => Ok(None),
+        1 => Ok(Some(InterMode::Zero)),
+        2 => Ok(Some(InterMode::Nearest)),
+        3 => Ok(Some(InterMode::Near)),
+        4 => Ok(Some(InterMode::New)),
+        5 => Ok(Some(InterMode::Split)),
+        6.. => Err(LevelRefusal::BadEntry),
     }
 }

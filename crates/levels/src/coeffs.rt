@@ -1,23 +1,29 @@
 // Whether a macroblock has coefficients (RFC 6386, section 15.1), and the first of them. Document 01 has them as one list, y2 (16), y (256), u (64), v (64); here it is of any length.
-ghost use Rattle.std.specs.Prelude.{◌≡◌};
+ghost use Rattle.std.specs.Prelude.{◌≡◌, ◌≢◌, ◌<◌, ◌≤◌, ℕ, length, get_or, pos};
 ghost use Rattle.levels.specs.Coefficients.{has_coeffs, first_coeff};
 
-// The place, from 0, of the first number that is not 0, at which the loop ends; the list's length if all are 0.
+// The place of the first number that is not 0, or the list's length.
+fn first_set(coeffs: &[i16]) -> usize
+    ensures within { result ≤ length coeffs.now }
+    ensures zeros_before { (k : ℕ) → k < result → get_or coeffs.now k (pos 0) ≡ pos 0 }
+    ensures set_there { result < length coeffs.now → get_or coeffs.now result (pos 0) ≢ pos 0 }
+{
+    coeffs
+        .iter()
+        .position(|coeff| *coeff != 0)
+        .unwrap_or(coeffs.len())
+}
+
+// The place, from 0, of the first number that is not 0, at which the search ends; the list's length if all are 0.
+#[tactic(auto, using(crate::proofs::Coefficients::is_first_coeff))]
 pub fn first_coeff(coeffs: &[i16]) -> usize
     ensures { result ≡ first_coeff coeffs.now }
 {
-    // The numbers before the nth are 0.
-    let mut n = 1;
-    while n <= coeffs.len() {
-        if coeffs[n - 1] != 0 {
-            return n - 1;
-        }
-        n += 1;
-    }
-    coeffs.len()
+    first_set(coeffs)
 }
 
 // True if some number is not 0. An empty list gives false.
+#[tactic(auto, using(crate::proofs::Coefficients::coeffs_first))]
 pub fn mb_has_coeffs(coeffs: &[i16]) -> bool
     ensures { result ≡ has_coeffs coeffs.now }
 {

@@ -1,5 +1,5 @@
 // How a macroblock was predicted: the cases that document 01's bytes stand for.
-#[derive(Clone, Copy)]
+#[derive(Clone, Copy, Debug, PartialEq, Eq)]
 pub enum IntraYMode {
     Dc,
     V,
@@ -8,14 +8,14 @@ pub enum IntraYMode {
     B,
 }
 
-#[derive(Clone, Copy)]
+#[derive(Clone, Copy, Debug, PartialEq, Eq)]
 pub enum RefFrame {
     Last,
     Golden,
     AltRef,
 }
 
-#[derive(Clone, Copy)]
+#[derive(Clone, Copy, Debug, PartialEq, Eq)]
 pub enum InterMode {
     Zero,
     Nearest,
@@ -24,16 +24,10 @@ pub enum InterMode {
     Split,
 }
 
-// A reference, or none.
-#[derive(Clone, Copy)]
-pub enum MaybeRef {
-    Absent,
-    Present(RefFrame),
-}
-
-// An inter mode, or none.
-#[derive(Clone, Copy)]
-pub enum MaybeInter {
-    Absent,
-    Present(InterMode),
+// The prediction of one macroblock.
+#[derive(Clone, Copy, Debug, PartialEq, Eq)]
+pub struct Prediction {
+    pub mode: IntraYMode,
+    pub reference: Option<RefFrame>,
+    pub inter_mode: Option<InterMode>,
 }

@@ -60,30 +60,24 @@ fn interior_at(level: u8, sharpness: u8) -> u8
 }
 
 // The limits that `derive` gives, with the interior limit from the table where it has one.
+#[tactic(auto, unfolding(arithmetic::specs::Limits::derive))]
 pub fn limits_at(level: u8, sharpness: u8, key: bool) -> LoopFilterParams
     ensures { result ≡ derive level sharpness key }
 {
     LoopFilterParams::with_interior(level, interior_at(level, sharpness), key)
 }
 
-fn lesser(a: usize, b: usize) -> usize
-    ensures { result ≡ min a b }
-{
-    if a < b { a } else { b }
-}
-
 // Writes the table's first bytes into the slice, as many as it takes, and says how many.
+#[tactic(auto, unfolding(crate::specs::InteriorLimits::bytes_taken))]
 pub fn copy_interior_limits(into: &mut [u8]) -> usize
     ensures value { result ≡ bytes_taken into.old }
     ensures into_after { into.new ≡ with_bytes into.old }
 {
-    let n = lesser(into.len(), 512);
+    let n = into.len().min(512);
     let table = interior_limits();
-    let mut i = 0;
-    while i < n {
+    for i in 0..n {
         let row = table[i / 64];
         into[i] = row[i % 64];
-        i += 1;
     }
     n
 }

@@ -1,16 +1,22 @@
 -- What is returned of an answer is returned of an equal one. Assumes nothing.
-use mathlib.Core.Path.{◌≡◌, ap, ◌∙◌}
+use mathlib.Core.Path.{◌≡◌, refl, ap, ◌∙◌}
 use Prim.Native.Nat.{ℕ}
 use Rattle.arithmetic.specs.Outcome.{Outcome, number_of}
-use Rattle.planes.specs.Planes.{Planes}
+use mathlib.Core.List.{List}
+use Rattle.planes.specs.Layout.{planes_of}
+use Rattle.planes.specs.Pictures.{planes_lent}
+use Rattle.planes.specs.declared.picture.PictureMut.{PictureMut}
 use Rattle.levels.specs.declared.config.FrameFilterConfig.{FrameFilterConfig}
 use Rattle.calls.specs.Pass.{Pass, Call, Progress, answer, planes_after}
-use mathlib.Core.Bool.{Bool}
+use mathlib.Core.Bool.{Bool, true, false}
+use mir.Val.{bool_byte}
 use Rattle.kernels.specs.Segment.{mark}
 use Rattle.calls.specs.Smoothed.{part}
 use Rattle.calls.specs.Answers.{Passed, pass_outcome, part_outcome}
 use Rattle.calls.specs.FinalRows.{Rows}
-use Rattle.calls.specs.declared.answers.PassAnswer.{PassAnswer}
+use Rattle.std.specs.Prelude.{Result}
+use Rattle.calls.specs.declared.answers.Done.{Done}
+use Rattle.calls.specs.declared.answers.PassRefusal.{PassRefusal}
 use Rattle.search.specs.Search.{SearchCall, Choice, LevelChoice, search_answer, level_only, scratch_after, Searched, LevelSearched}
 use Rattle.stills.specs.FullSearch.{FullChoice, full_answer, scratch_after_full, FullSearched}
 use Rattle.loop_filter.specs.Returned.{
@@ -31,6 +37,12 @@ use Rattle.loop_filter.specs.Returned.{
 pub returned : {X : Type 0} {o o' : Outcome X} {n : ℕ} {a b : X} → o ≡ o' → Returned o n a b → Returned o' n a b
 returned {X} {a = a} e r = record { number = r.number ∙ ap number_of e; out = r.out ∙ ap (λ (o : Outcome X). out_of (λ x. x) o a) e }
 
+-- a `bool` as a byte
+pub mark-byte : (b : Bool) → bool_byte b ≡ mark b
+unfolding mark
+mark-byte true = refl
+mark-byte false = refl
+
 pub kernel-passed : {o o' : Outcome Bool} {n a b : ℕ} → o ≡ o' → PassedReturned o n a b → PassedReturned o' n a b
 kernel-passed {a = a} e r = record { number = r.number ∙ ap number_of e; out = r.out ∙ ap (λ (o : Outcome Bool). out_of mark o a) e }
 
@@ -50,11 +62,11 @@ rows {a = a} {b = b} e r = record {
 }
 
 -- a pass whose settings crossed as numbers
-pub passed : (W : Pass) (call : FrameFilterConfig → Call W) {q q' : FrameFilterConfig} {r : PassAnswer} {after : Planes} {n a b c d e f : ℕ}
-    → q ≡ q' → Passed W (call q) r after → ProgressReturned (pass_outcome r) (part_outcome r) n a b c d e f → PassReturned W (call q') n after a b c d e f
-passed W call same p t = record {
+pub passed : (W : Pass) (call : FrameFilterConfig → Call W) {q q' : FrameFilterConfig} {r : Result Done PassRefusal} (after : PictureMut) {y u v : List ℕ} {n a b c d e f : ℕ}
+    → y ≡ after.y.now → u ≡ after.u.now → v ≡ after.v.now → q ≡ q' → Passed W (call q) r (planes_lent after) → ProgressReturned (pass_outcome r) (part_outcome r) n a b c d e f → PassReturned W (call q') n (planes_of y u v) a b c d e f
+passed W call after ey eu ev same p t = record {
   progress = progress (p.answered ∙ ap (λ (q : FrameFilterConfig). answer W (call q)) same) (p.counted ∙ ap (λ (q : FrameFilterConfig). part W (call q)) same) t;
-  planes = p.filtered ∙ ap (λ (q : FrameFilterConfig). planes_after W (call q)) same;
+  planes = (λ i. planes_of (ey i) (eu i) (ev i)) ∙ p.filtered ∙ ap (λ (q : FrameFilterConfig). planes_after W (call q)) same;
 }
 
 pub choice : {o o' : Outcome Choice} {n a b c d e f : ℕ} → o ≡ o' → ChoiceReturned o n a b c d e f → ChoiceReturned o' n a b c d e f
@@ -73,18 +85,18 @@ level {a = a} {b = b} q r = record {
 }
 
 -- a search whose settings crossed as numbers
-pub searched : (W : Pass) (call : FrameFilterConfig → SearchCall W) {q q' : FrameFilterConfig} {o : Outcome Choice} {after : Planes} {n a b c d e f : ℕ}
-    → q ≡ q' → Searched W (call q) o after → ChoiceReturned o n a b c d e f → SearchReturned W (call q') n after a b c d e f
-searched W call same s t = record {
+pub searched : (W : Pass) (call : FrameFilterConfig → SearchCall W) {q q' : FrameFilterConfig} {o : Outcome Choice} (after : PictureMut) {y u v : List ℕ} {n a b c d e f : ℕ}
+    → y ≡ after.y.now → u ≡ after.u.now → v ≡ after.v.now → q ≡ q' → Searched W (call q) o (planes_lent after) → ChoiceReturned o n a b c d e f → SearchReturned W (call q') n (planes_of y u v) a b c d e f
+searched W call after ey eu ev same s t = record {
   choice = choice (s.answer ∙ ap (λ (q : FrameFilterConfig). search_answer W (call q)) same) t;
-  scratch = s.scratch ∙ ap (λ (q : FrameFilterConfig). scratch_after W (call q)) same;
+  scratch = (λ i. planes_of (ey i) (eu i) (ev i)) ∙ s.scratch ∙ ap (λ (q : FrameFilterConfig). scratch_after W (call q)) same;
 }
 
-pub level-searched : (W : Pass) (call : FrameFilterConfig → SearchCall W) {q q' : FrameFilterConfig} {o : Outcome LevelChoice} {after : Planes} {n a b c d : ℕ}
-    → q ≡ q' → LevelSearched W (call q) o after → LevelReturned o n a b c d → LevelSearchReturned W (call q') n after a b c d
-level-searched W call same s t = record {
+pub level-searched : (W : Pass) (call : FrameFilterConfig → SearchCall W) {q q' : FrameFilterConfig} {o : Outcome LevelChoice} (after : PictureMut) {y u v : List ℕ} {n a b c d : ℕ}
+    → y ≡ after.y.now → u ≡ after.u.now → v ≡ after.v.now → q ≡ q' → LevelSearched W (call q) o (planes_lent after) → LevelReturned o n a b c d → LevelSearchReturned W (call q') n (planes_of y u v) a b c d
+level-searched W call after ey eu ev same s t = record {
   choice = level (s.answer ∙ ap (λ (q : FrameFilterConfig). level_only (search_answer W (call q))) same) t;
-  scratch = s.scratch ∙ ap (λ (q : FrameFilterConfig). scratch_after W (call q)) same;
+  scratch = (λ i. planes_of (ey i) (eu i) (ev i)) ∙ s.scratch ∙ ap (λ (q : FrameFilterConfig). scratch_after W (call q)) same;
 }
 
 pub full-choice : {o o' : Outcome FullChoice} {n a b c d e f : ℕ} → o ≡ o' → FullChoiceReturned o n a b c d e f → FullChoiceReturned o' n a b c d e f
@@ -96,9 +108,9 @@ full-choice {a = a} {b = b} {c = c} q r = record {
 }
 
 -- a full search whose settings crossed as numbers
-pub full-searched : (W : Pass) (call : FrameFilterConfig → SearchCall W) {q q' : FrameFilterConfig} {o : Outcome FullChoice} {after : Planes} {n a b c d e f : ℕ}
-    → q ≡ q' → FullSearched W (call q) o after → FullChoiceReturned o n a b c d e f → FullSearchReturned W (call q') n after a b c d e f
-full-searched W call same s t = record {
+pub full-searched : (W : Pass) (call : FrameFilterConfig → SearchCall W) {q q' : FrameFilterConfig} {o : Outcome FullChoice} (after : PictureMut) {y u v : List ℕ} {n a b c d e f : ℕ}
+    → y ≡ after.y.now → u ≡ after.u.now → v ≡ after.v.now → q ≡ q' → FullSearched W (call q) o (planes_lent after) → FullChoiceReturned o n a b c d e f → FullSearchReturned W (call q') n (planes_of y u v) a b c d e f
+full-searched W call after ey eu ev same s t = record {
   choice = full-choice (s.answer ∙ ap (λ (q : FrameFilterConfig). full_answer W (call q)) same) t;
-  scratch = s.scratch ∙ ap (λ (q : FrameFilterConfig). scratch_after_full W (call q)) same;
+  scratch = (λ i. planes_of (ey i) (eu i) (ev i)) ∙ s.scratch ∙ ap (λ (q : FrameFilterConfig). scratch_after_full W (call q)) same;
 }

@@ -9,27 +9,33 @@ ghost use Rattle.loop_filter.specs.Returned.{FullChoiceReturned, FullSearchRetur
 ghost use Rattle.loop_filter.specs.Settings.{settings_of, layout_of};
 
 use crate::settings::settings;
+use frame::entries::{InterLists, KeyLists};
 use planes::layout::PlaneLayout;
-use stills::answers::FullAnswer;
-use sums::answers::search_refusal_number;
+use planes::picture::{Picture, PictureMut};
+use search::input::SearchInput;
+use stills::answers::Best;
+use stills::full_search::full_search;
+use sums::answers::SearchRefusal;
+use sums::source::SourcePlanes;
 
 // Returns 0 and puts the chosen pair and its sum, or returns the number of the refusal.
-fn put_full_choice(answer: FullAnswer, level: &mut u8, sharpness: &mut u8, sum: &mut u64) -> u8
+fn put_full_choice(
+    answer: Result<Best, SearchRefusal>,
+    level: &mut u8,
+    sharpness: &mut u8,
+    sum: &mut u64,
+) -> u8
     ensures { FullChoiceReturned (full_outcome answer)
         result level.old sharpness.old sum.old level.new sharpness.new sum.new }
 {
     match answer {
-        FullAnswer::Chosen {
-            level: l,
-            sharpness: s,
-            sum: n,
-        } => {
-            *level = l;
-            *sharpness = s;
-            *sum = n;
+        Ok(best) => {
+            *level = best.level;
+            *sharpness = best.sharpness;
+            *sum = best.sum;
             0
         }
-        FullAnswer::Refused(refusal) => search_refusal_number(refusal),
+        Err(refusal) => u8::from(refusal),
     }
 }
 
@@ -113,31 +119,36 @@ pub extern "C" fn vp8lf_full_search<'s>(
         split_mv_mode_delta,
     );
     let layout = PlaneLayout {
-        mb_cols: mb_cols,
-        mb_rows: mb_rows,
-        y_stride: y_stride,
-        uv_stride: uv_stride,
+        mb_cols,
+        mb_rows,
+        y_stride,
+        uv_stride,
     };
-    let answer = stills::full_search::full_search(
-        y,
-        u,
-        v,
-        scratch_y,
-        scratch_u,
-        scratch_v,
+    let input = SearchInput {
+        picture: Picture { y, u, v },
         layout,
+        config,
+        source: SourcePlanes {
+            width,
+            height,
+            y: src_y,
+            u: src_u,
+            v: src_v,
+            y_stride: src_y_stride,
+            uv_stride: src_uv_stride,
+        },
+    };
+    let mut scratch = PictureMut {
+        y: scratch_y,
+        u: scratch_u,
+        v: scratch_v,
+    };
+    let key_lists = KeyLists {
         modes,
         segments,
         flags,
-        config,
-        width,
-        height,
-        src_y,
-        src_u,
-        src_v,
-        src_y_stride,
-        src_uv_stride,
-    );
+    };
+    let answer = full_search(input, key_lists, &mut scratch);
     put_full_choice(answer, level, sharpness, sum)
 }
 
@@ -223,32 +234,39 @@ pub extern "C" fn vp8lf_full_search_inter<'s>(
         split_mv_mode_delta,
     );
     let layout = PlaneLayout {
-        mb_cols: mb_cols,
-        mb_rows: mb_rows,
-        y_stride: y_stride,
-        uv_stride: uv_stride,
+        mb_cols,
+        mb_rows,
+        y_stride,
+        uv_stride,
     };
-    let answer = stills::full_search::full_search_inter(
-        y,
-        u,
-        v,
-        scratch_y,
-        scratch_u,
-        scratch_v,
+    let input = SearchInput {
+        picture: Picture { y, u, v },
         layout,
-        modes,
-        segments,
-        flags,
+        config,
+        source: SourcePlanes {
+            width,
+            height,
+            y: src_y,
+            u: src_u,
+            v: src_v,
+            y_stride: src_y_stride,
+            uv_stride: src_uv_stride,
+        },
+    };
+    let mut scratch = PictureMut {
+        y: scratch_y,
+        u: scratch_u,
+        v: scratch_v,
+    };
+    let inter_lists = InterLists {
+        key: KeyLists {
+            modes,
+            segments,
+            flags,
+        },
         references,
         inter_modes,
-        config,
-        width,
-        height,
-        src_y,
-        src_u,
-        src_v,
-        src_y_stride,
-        src_uv_stride,
-    );
+    };
+    let answer = full_search(input, inter_lists, &mut scratch);
     put_full_choice(answer, level, sharpness, sum)
 }

@@ -7,7 +7,6 @@ ghost use Rattle.loop_filter.specs.Returned.{Returned};
 ghost use Rattle.loop_filter.specs.Settings.{settings_of};
 
 use crate::settings::settings;
-use levels::level::LevelAnswer;
 
 // The level goes through `level`, which a refusal leaves alone.
 #[unsafe(no_mangle)]
@@ -65,11 +64,11 @@ pub extern "C" fn vp8lf_calculate_mb_filter_level(
         split_mv_mode_delta,
     );
     match levels::level::calculate_mb_filter_level(config, segment, mode) {
-        LevelAnswer::Level(n) => {
+        Ok(n) => {
             *level = n;
             0
         }
-        LevelAnswer::BadEntry => 6,
+        Err(refusal) => u8::from(refusal),
     }
 }
 
@@ -133,11 +132,11 @@ pub extern "C" fn vp8lf_calculate_mb_filter_level_inter(
     match levels::level::calculate_mb_filter_level_inter(
         config, segment, reference, inter_mode, mode,
     ) {
-        LevelAnswer::Level(n) => {
+        Ok(n) => {
             *level = n;
             0
         }
-        LevelAnswer::BadEntry => 6,
+        Err(refusal) => u8::from(refusal),
     }
 }
 

@@ -9,27 +9,32 @@ ghost use Rattle.loop_filter.specs.Returned.{ProgressReturned, PassReturned, Row
 ghost use Rattle.loop_filter.specs.Settings.{settings_of, layout_of};
 
 use crate::settings::settings;
-use calls::answers::{PassAnswer, pass_refusal_number};
-use calls::final_rows::FinalRowsAnswer;
+use calls::answers::{Done, PassRefusal};
+use calls::final_rows::final_rows;
+use frame::entries::{InterLists, KeyLists};
+use frame::pass::filter_frame;
+use frame_calls::frame_call::loop_filter_frame;
 use planes::layout::PlaneLayout;
+use planes::picture::PictureMut;
 
 // Returns 0 and puts the count, the next start and the positions smoothed, or returns the number of the refusal.
-fn put_progress(answer: PassAnswer, count: &mut usize, next: &mut usize, smoothed: &mut usize) -> u8
+fn put_progress(
+    answer: Result<Done, PassRefusal>,
+    count: &mut usize,
+    next: &mut usize,
+    smoothed: &mut usize,
+) -> u8
     ensures { ProgressReturned (pass_outcome answer) (part_outcome answer) result
         count.old next.old smoothed.old count.new next.new smoothed.new }
 {
     match answer {
-        PassAnswer::Done {
-            count: c,
-            next: n,
-            smoothed: s,
-        } => {
-            *count = c;
-            *next = n;
-            *smoothed = s;
+        Ok(done) => {
+            *count = done.count;
+            *next = done.next;
+            *smoothed = done.smoothed;
             0
         }
-        PassAnswer::Refused(refusal) => pass_refusal_number(refusal),
+        Err(refusal) => u8::from(refusal),
     }
 }
 
@@ -103,14 +108,18 @@ pub extern "C" fn vp8lf_filter_frame(
         split_mv_mode_delta,
     );
     let layout = PlaneLayout {
-        mb_cols: mb_cols,
-        mb_rows: mb_rows,
-        y_stride: y_stride,
-        uv_stride: uv_stride,
+        mb_cols,
+        mb_rows,
+        y_stride,
+        uv_stride,
     };
-    let answer = frame::pass::filter_frame(
-        y, u, v, layout, modes, segments, flags, config, start, allowance,
-    );
+    let mut picture = PictureMut { y, u, v };
+    let key_lists = KeyLists {
+        modes,
+        segments,
+        flags,
+    };
+    let answer = filter_frame(&mut picture, layout, key_lists, config, start, allowance);
     put_progress(answer, count, next, smoothed)
 }
 
@@ -186,25 +195,22 @@ pub extern "C" fn vp8lf_filter_inter_frame(
         split_mv_mode_delta,
     );
     let layout = PlaneLayout {
-        mb_cols: mb_cols,
-        mb_rows: mb_rows,
-        y_stride: y_stride,
-        uv_stride: uv_stride,
+        mb_cols,
+        mb_rows,
+        y_stride,
+        uv_stride,
     };
-    let answer = frame::pass::filter_inter_frame(
-        y,
-        u,
-        v,
-        layout,
-        modes,
-        segments,
-        flags,
+    let mut picture = PictureMut { y, u, v };
+    let inter_lists = InterLists {
+        key: KeyLists {
+            modes,
+            segments,
+            flags,
+        },
         references,
         inter_modes,
-        config,
-        start,
-        allowance,
-    );
+    };
+    let answer = filter_frame(&mut picture, layout, inter_lists, config, start, allowance);
     put_progress(answer, count, next, smoothed)
 }
 
@@ -278,14 +284,18 @@ pub extern "C" fn vp8lf_loop_filter_frame(
         split_mv_mode_delta,
     );
     let layout = PlaneLayout {
-        mb_cols: mb_cols,
-        mb_rows: mb_rows,
-        y_stride: y_stride,
-        uv_stride: uv_stride,
+        mb_cols,
+        mb_rows,
+        y_stride,
+        uv_stride,
     };
-    let answer = frame_calls::frame_call::loop_filter_frame(
-        y, u, v, layout, modes, segments, flags, config, start, allowance,
-    );
+    let mut picture = PictureMut { y, u, v };
+    let key_lists = KeyLists {
+        modes,
+        segments,
+        flags,
+    };
+    let answer = loop_filter_frame(&mut picture, layout, key_lists, config, start, allowance);
     put_progress(answer, count, next, smoothed)
 }
 
@@ -361,25 +371,22 @@ pub extern "C" fn vp8lf_loop_filter_inter_frame(
         split_mv_mode_delta,
     );
     let layout = PlaneLayout {
-        mb_cols: mb_cols,
-        mb_rows: mb_rows,
-        y_stride: y_stride,
-        uv_stride: uv_stride,
+        mb_cols,
+        mb_rows,
+        y_stride,
+        uv_stride,
     };
-    let answer = frame_calls::frame_call::loop_filter_inter_frame(
-        y,
-        u,
-        v,
-        layout,
-        modes,
-        segments,
-        flags,
+    let mut picture = PictureMut { y, u, v };
+    let inter_lists = InterLists {
+        key: KeyLists {
+            modes,
+            segments,
+            flags,
+        },
         references,
         inter_modes,
-        config,
-        start,
-        allowance,
-    );
+    };
+    let answer = loop_filter_frame(&mut picture, layout, inter_lists, config, start, allowance);
     put_progress(answer, count, next, smoothed)
 }
 
@@ -398,20 +405,17 @@ pub extern "C" fn vp8lf_final_rows(
         result luma.old chroma.old luma.new chroma.new }
 {
     let layout = PlaneLayout {
-        mb_cols: mb_cols,
-        mb_rows: mb_rows,
-        y_stride: y_stride,
-        uv_stride: uv_stride,
+        mb_cols,
+        mb_rows,
+        y_stride,
+        uv_stride,
     };
-    match calls::final_rows::final_rows(layout, start) {
-        FinalRowsAnswer::FinalRows {
-            luma: y,
-            chroma: uv,
-        } => {
-            *luma = y;
-            *chroma = uv;
+    match final_rows(layout, start) {
+        Ok(rows) => {
+            *luma = rows.luma;
+            *chroma = rows.chroma;
             0
         }
-        FinalRowsAnswer::Refused(refusal) => pass_refusal_number(refusal),
+        Err(refusal) => u8::from(refusal),
     }
 }

@@ -5,24 +5,20 @@ ghost use Rattle.kernels.specs.Answers.{kernel_outcome};
 ghost use Rattle.kernels.specs.Segment.{common_adjust, simple_segment, subblock_filter, mb_filter, mark, windowed, window_answer, adjust_answer};
 ghost use Rattle.loop_filter.specs.Returned.{Returned, PassedReturned};
 
-use kernels::answers::{AdjustAnswer, KernelAnswer};
-
-fn one_if(yes: bool) -> u8
-    ensures { result ≡ mark yes }
-{
-    if yes { 1 } else { 0 }
-}
+use edges::normal::{MacroblockEdge, SubblockEdge};
+use edges::windows::filter_window;
+use kernels::answers::KernelRefusal;
 
 // Returns 0 and puts 1 where the test passed and 0 where it did not, or returns the number of the refusal.
-fn put_passed(answer: KernelAnswer, passed: &mut u8) -> u8
+fn put_passed(answer: Result<bool, KernelRefusal>, passed: &mut u8) -> u8
     ensures { PassedReturned (kernel_outcome answer) result passed.old passed.new }
 {
     match answer {
-        KernelAnswer::Done(yes) => {
-            *passed = one_if(yes);
+        Ok(yes) => {
+            *passed = u8::from(yes);
             0
         }
-        KernelAnswer::NoWindow => 4,
+        Err(refusal) => u8::from(refusal),
     }
 }
 
@@ -38,11 +34,11 @@ pub extern "C" fn vp8lf_common_adjust(
     ensures seg_after { seg.new ≡ windowed (common_adjust use_outer_taps) seg.old base }
 {
     match kernels::segments::common_adjust(use_outer_taps, seg, base) {
-        AdjustAnswer::AdjustedBy(a) => {
+        Ok(a) => {
             *adjustment = a;
             0
         }
-        AdjustAnswer::NoWindowToAdjust => 4,
+        Err(refusal) => u8::from(refusal),
     }
 }
 
@@ -72,7 +68,7 @@ pub extern "C" fn vp8lf_subblock_filter(
     ensures passed_returned { PassedReturned (window_answer (subblock_filter hev_threshold interior_limit edge_limit) seg.old base) result passed.old passed.new }
     ensures seg_after { seg.new ≡ windowed (subblock_filter hev_threshold interior_limit edge_limit) seg.old base }
 {
-    let answer = edges::windows::subblock_filter_window(
+    let answer = filter_window::<SubblockEdge>(
         hev_threshold,
         interior_limit,
         edge_limit,
@@ -94,7 +90,7 @@ pub extern "C" fn vp8lf_mb_filter(
     ensures passed_returned { PassedReturned (window_answer (mb_filter hev_threshold interior_limit edge_limit) seg.old base) result passed.old passed.new }
     ensures seg_after { seg.new ≡ windowed (mb_filter hev_threshold interior_limit edge_limit) seg.old base }
 {
-    let answer = edges::windows::mb_filter_window(
+    let answer = filter_window::<MacroblockEdge>(
         hev_threshold,
         interior_limit,
         edge_limit,

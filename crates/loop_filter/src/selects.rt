@@ -10,9 +10,15 @@ ghost use Rattle.loop_filter.specs.Returned.{Returned, ChoiceReturned, LevelRetu
 ghost use Rattle.loop_filter.specs.Settings.{settings_of, layout_of};
 
 use crate::settings::settings;
+use frame::entries::{InterLists, KeyLists};
 use planes::layout::PlaneLayout;
-use search::answers::{LevelOnlyAnswer, ParamsAnswer};
-use sums::answers::{SumAnswer, search_refusal_number};
+use planes::picture::{Picture, PictureMut};
+use search::answers::{FilterLevel, FilterParams};
+use search::input::SearchInput;
+use search::search::{select_filter_level, select_filter_params};
+use sums::answers::SearchRefusal;
+use sums::source::SourcePlanes;
+use sums::sums::reconstruction_ssd;
 
 // The sum goes through `sum`, which a refusal leaves alone.
 #[unsafe(no_mangle)]
@@ -39,64 +45,62 @@ pub extern "C" fn vp8lf_reconstruction_ssd<'s>(
         result sum.old sum.new }
 {
     let layout = PlaneLayout {
-        mb_cols: mb_cols,
-        mb_rows: mb_rows,
-        y_stride: y_stride,
-        uv_stride: uv_stride,
+        mb_cols,
+        mb_rows,
+        y_stride,
+        uv_stride,
     };
-    match sums::sums::reconstruction_ssd(
-        y,
-        u,
-        v,
-        layout,
+    let source = SourcePlanes {
         width,
         height,
-        src_y,
-        src_u,
-        src_v,
-        src_y_stride,
-        src_uv_stride,
-    ) {
-        SumAnswer::Sum(n) => {
+        y: src_y,
+        u: src_u,
+        v: src_v,
+        y_stride: src_y_stride,
+        uv_stride: src_uv_stride,
+    };
+    match reconstruction_ssd(Picture { y, u, v }, layout, source) {
+        Ok(n) => {
             *sum = n;
             0
         }
-        SumAnswer::Refused(refusal) => search_refusal_number(refusal),
+        Err(refusal) => u8::from(refusal),
     }
 }
 
 // Returns 0 and puts the chosen pair and the count, or returns the number of the refusal.
-fn put_choice(answer: ParamsAnswer, level: &mut u8, sharpness: &mut u8, count: &mut usize) -> u8
+fn put_choice(
+    answer: Result<FilterParams, SearchRefusal>,
+    level: &mut u8,
+    sharpness: &mut u8,
+    count: &mut usize,
+) -> u8
     ensures { ChoiceReturned (params_outcome answer)
         result level.old sharpness.old count.old level.new sharpness.new count.new }
 {
     match answer {
-        ParamsAnswer::Chosen {
-            level: l,
-            sharpness: s,
-            count: c,
-        } => {
-            *level = l;
-            *sharpness = s;
-            *count = c;
+        Ok(chosen) => {
+            *level = chosen.level;
+            *sharpness = chosen.sharpness;
+            *count = chosen.count;
             0
         }
-        ParamsAnswer::Refused(refusal) => search_refusal_number(refusal),
+        Err(refusal) => u8::from(refusal),
     }
 }
 
 // The same without the sharpness.
-fn put_level(answer: LevelOnlyAnswer, level: &mut u8, count: &mut usize) -> u8
+fn put_level(answer: Result<FilterLevel, SearchRefusal>, level: &mut u8, count: &mut usize) -> u8
     ensures { LevelReturned (level_only_outcome answer)
         result level.old count.old level.new count.new }
 {
     match answer {
-        LevelOnlyAnswer::Chosen { level: l, count: c } => {
-            *level = l;
-            *count = c;
+        Ok(chosen) => {
+            *level = chosen.level;
+            *count = chosen.count;
             0
         }
-        LevelOnlyAnswer::Refused(refusal) => search_refusal_number(refusal),
+        Err(refusal) => u8::from(refusal),
     }
 }
 
@@ -180,31 +184,36 @@ pub extern "C" fn vp8lf_select_filter_params<'s>(
         split_mv_mode_delta,
     );
     let layout = PlaneLayout {
-        mb_cols: mb_cols,
-        mb_rows: mb_rows,
-        y_stride: y_stride,
-        uv_stride: uv_stride,
+        mb_cols,
+        mb_rows,
+        y_stride,
+        uv_stride,
     };
-    let answer = search::search::select_filter_params(
-        y,
-        u,
-        v,
-        scratch_y,
-        scratch_u,
-        scratch_v,
+    let input = SearchInput {
+        picture: Picture { y, u, v },
         layout,
+        config,
+        source: SourcePlanes {
+            width,
+            height,
+            y: src_y,
+            u: src_u,
+            v: src_v,
+            y_stride: src_y_stride,
+            uv_stride: src_uv_stride,
+        },
+    };
+    let mut scratch = PictureMut {
+        y: scratch_y,
+        u: scratch_u,
+        v: scratch_v,
+    };
+    let key_lists = KeyLists {
         modes,
         segments,
         flags,
-        config,
-        width,
-        height,
-        src_y,
-        src_u,
-        src_v,
-        src_y_stride,
-        src_uv_stride,
-    );
+    };
+    let answer = select_filter_params(input, key_lists, &mut scratch);
     put_choice(answer, level, sharpness, count)
 }
 
@@ -290,33 +299,40 @@ pub extern "C" fn vp8lf_select_filter_params_inter<'s>(
         split_mv_mode_delta,
     );
     let layout = PlaneLayout {
-        mb_cols: mb_cols,
-        mb_rows: mb_rows,
-        y_stride: y_stride,
-        uv_stride: uv_stride,
+        mb_cols,
+        mb_rows,
+        y_stride,
+        uv_stride,
     };
-    let answer = search::search::select_filter_params_inter(
-        y,
-        u,
-        v,
-        scratch_y,
-        scratch_u,
-        scratch_v,
+    let input = SearchInput {
+        picture: Picture { y, u, v },
         layout,
-        modes,
-        segments,
-        flags,
+        config,
+        source: SourcePlanes {
+            width,
+            height,
+            y: src_y,
+            u: src_u,
+            v: src_v,
+            y_stride: src_y_stride,
+            uv_stride: src_uv_stride,
+        },
+    };
+    let mut scratch = PictureMut {
+        y: scratch_y,
+        u: scratch_u,
+        v: scratch_v,
+    };
+    let inter_lists = InterLists {
+        key: KeyLists {
+            modes,
+            segments,
+            flags,
+        },
         references,
         inter_modes,
-        config,
-        width,
-        height,
-        src_y,
-        src_u,
-        src_v,
-        src_y_stride,
-        src_uv_stride,
-    );
+    };
+    let answer = select_filter_params(input, inter_lists, &mut scratch);
     put_choice(answer, level, sharpness, count)
 }
 
@@ -399,31 +415,36 @@ pub extern "C" fn vp8lf_select_filter_level<'s>(
         split_mv_mode_delta,
     );
     let layout = PlaneLayout {
-        mb_cols: mb_cols,
-        mb_rows: mb_rows,
-        y_stride: y_stride,
-        uv_stride: uv_stride,
+        mb_cols,
+        mb_rows,
+        y_stride,
+        uv_stride,
     };
-    let answer = search::search::select_filter_level(
-        y,
-        u,
-        v,
-        scratch_y,
-        scratch_u,
-        scratch_v,
+    let input = SearchInput {
+        picture: Picture { y, u, v },
         layout,
+        config,
+        source: SourcePlanes {
+            width,
+            height,
+            y: src_y,
+            u: src_u,
+            v: src_v,
+            y_stride: src_y_stride,
+            uv_stride: src_uv_stride,
+        },
+    };
+    let mut scratch = PictureMut {
+        y: scratch_y,
+        u: scratch_u,
+        v: scratch_v,
+    };
+    let key_lists = KeyLists {
         modes,
         segments,
         flags,
-        config,
-        width,
-        height,
-        src_y,
-        src_u,
-        src_v,
-        src_y_stride,
-        src_uv_stride,
-    );
+    };
+    let answer = select_filter_level(input, key_lists, &mut scratch);
     put_level(answer, level, count)
 }
 
@@ -508,32 +529,39 @@ pub extern "C" fn vp8lf_select_filter_level_inter<'s>(
         split_mv_mode_delta,
     );
     let layout = PlaneLayout {
-        mb_cols: mb_cols,
-        mb_rows: mb_rows,
-        y_stride: y_stride,
-        uv_stride: uv_stride,
+        mb_cols,
+        mb_rows,
+        y_stride,
+        uv_stride,
     };
-    let answer = search::search::select_filter_level_inter(
-        y,
-        u,
-        v,
-        scratch_y,
-        scratch_u,
-        scratch_v,
+    let input = SearchInput {
+        picture: Picture { y, u, v },
         layout,
-        modes,
-        segments,
-        flags,
+        config,
+        source: SourcePlanes {
+            width,
+            height,
+            y: src_y,
+            u: src_u,
+            v: src_v,
+            y_stride: src_y_stride,
+            uv_stride: src_uv_stride,
+        },
+    };
+    let mut scratch = PictureMut {
+        y: scratch_y,
+        u: scratch_u,
+        v: scratch_v,
+    };
+    let inter_lists = InterLists {
+        key: KeyLists {
+            modes,
+            segments,
+            flags,
+        },
         references,
         inter_modes,
-        config,
-        width,
-        height,
-        src_y,
-        src_u,
-        src_v,
-        src_y_stride,
-        src_uv_stride,
-    );
+    };
+    let answer = select_filter_level(input, inter_lists, &mut scratch);
     put_level(answer, level, count)
 }

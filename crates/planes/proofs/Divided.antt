@@ -1,7 +1,7 @@
 -- Where no row of the grid is longer than a stride, as 2 has it, a sample of the grid stands at one row and column alone: its index divided by the stride, and the remainder.
-use mathlib.Core.Path.{◌≡◌, sym, subst}
-use mathlib.Core.Logic.{◌⊎◌, inl, inr}
-use Prim.Native.Nat.{ℕ, ◌+◌, ◌-◌, ◌*◌, ◌/◌, ◌%◌, ◌≤◌, ◌<◌}
+use mathlib.Core.Path.{sym, subst}
+use mathlib.Core.Logic.{inl, inr}
+use Prim.Native.Nat.{ℕ, ◌+◌, ◌*◌, ◌/◌, ◌%◌, ◌≤◌, ◌<◌}
 use native.Mathlib.Nat.{div-add-mod', mod-lt}
 use native.Mathlib.Omega.{arith}
 use Rattle.planes.specs.Planes.{Grid, side, stride, Sample, row_of, column_of, macroblocks, grid_row, grid_column, StridesHold}

@@ -1,6 +1,6 @@
 -- Laws of the refusals of a grid, and what is left where none holds. Assumes nothing.
 use mathlib.Core.Path.{◌≡◌, refl, subst}
-use mathlib.Core.Bool.{Bool, true, false, cond, ◌||◌}
+use mathlib.Core.Bool.{Bool, true, false, ◌||◌}
 use mathlib.Core.Logic.{⊎_elim}
 use Prim.Native.Nat.{ℕ, ◌+◌, ◌-◌, ◌*◌, ◌≤◌, ◌<◌}
 use native.Mathlib.Nat.{mul-le-mul, zero-mul, mul-zero, eq-zero-or-pos}
@@ -19,8 +19,8 @@ use Rattle.planes.specs.declared.layout.PlaneLayout.{PlaneLayout}
 pub area : (r s : ℕ) → r ≤ 16384 → s ≤ 65536 → (r - 1) * s ≤ 16384 * 65536
 area r s h k = mul-le-mul {n₁ = r - 1} {m₁ = s} {n₂ = 16384} {m₂ = 65536} (omega arith) k
 
-pub grid-fits : (c r : ℕ) → c ≤ 1024 → r ≤ 1024 → c * r ≤ 1048576
-grid-fits c r h k = mul-le-mul {n₁ = c} {m₁ = r} {n₂ = 1024} {m₂ = 1024} h k
+pub grid_fits : (c r : ℕ) → c ≤ 1024 → r ≤ 1024 → c * r ≤ 1048576
+grid_fits c r h k = mul-le-mul {n₁ = c} {m₁ = r} {n₂ = 1024} {m₂ = 1024} h k
 
 -- a list is too short for its last index
 pub short-is : (len a w : ℕ) → 0 < w → leb len (a + (w - 1)) ≡ ltb len (a + w)
@@ -91,64 +91,3 @@ module _ (l : PlaneLayout) where
 pub by_lengths : (g : Grid) (p : Planes) → grid_refusal g (length p.y) (length p.u) (length p.v) ≡ past_grid g p 0
 unfolding grid_refusal past_grid after_grid short_by short_planes
 by_lengths g p = refl
-
-module _ (g : Grid) (y u v : ℕ) where
-  pub number-zero : zero_grid g ≡ true → grid_refusal g y u v ≡ 0
-  unfolding grid_refusal
-  number-zero e = rw e
-
-  module _ (z : zero_grid g ≡ false) where
-    number : (t b s : Bool) → too_large g ≡ t → bad_strides g ≡ b → short_by g y u v ≡ s → grid_refusal g y u v ≡ cond t 1 (cond b 2 (cond s 3 0))
-    unfolding grid_refusal
-    number t b s e f h = rw (z, e, f, h)
-
-    pub number-large : too_large g ≡ true → grid_refusal g y u v ≡ 1
-    number-large e = number true (bad_strides g) (short_by g y u v) e refl refl
-
-    pub number-strides : too_large g ≡ false → bad_strides g ≡ true → grid_refusal g y u v ≡ 2
-    number-strides e f = number false true (short_by g y u v) e f refl
-
-    pub number_short : too_large g ≡ false → bad_strides g ≡ false → short_by g y u v ≡ true → grid_refusal g y u v ≡ 3
-    number_short e f h = number false false true e f h
-
-    pub number-none : too_large g ≡ false → bad_strides g ≡ false → short_by g y u v ≡ false → grid_refusal g y u v ≡ 0
-    number-none e f h = number false false false e f h
-
-    -- which tests a number tells
-    pub is-1 : grid_refusal g y u v ≡ 1 → too_large g ≡ true
-    is-1 n = by (too_large g) (bad_strides g) (short_by g y u v) refl refl refl
-      where
-        by : (t b s : Bool) → too_large g ≡ t → bad_strides g ≡ b → short_by g y u v ≡ s → too_large g ≡ true
-        by true b s e f h = e
-        by false true s e f h = absurd (omega (arith, n, number-strides e f))
-        by false false true e f h = absurd (omega (arith, n, number_short e f h))
-        by false false false e f h = absurd (omega (arith, n, number-none e f h))
-
-    pub is-2 : grid_refusal g y u v ≡ 2 → (too_large g ≡ false) × (bad_strides g ≡ true)
-    is-2 n = by (too_large g) (bad_strides g) (short_by g y u v) refl refl refl
-      where
-        by : (t b s : Bool) → too_large g ≡ t → bad_strides g ≡ b → short_by g y u v ≡ s → (too_large g ≡ false) × (bad_strides g ≡ true)
-        by true b s e f h = absurd (omega (arith, n, number-large e))
-        by false true s e f h = (e, f)
-        by false false true e f h = absurd (omega (arith, n, number_short e f h))
-        by false false false e f h = absurd (omega (arith, n, number-none e f h))
-
-    -- 3 is the one that is left
-    pub is-3 : (grid_refusal g y u v ≡ 1 → ⊥) → (grid_refusal g y u v ≡ 2 → ⊥) → (grid_refusal g y u v ≡ 0 → ⊥)
-        → (too_large g ≡ false) × (bad_strides g ≡ false) × (short_by g y u v ≡ true)
-    is-3 n1 n2 n0 = by (too_large g) (bad_strides g) (short_by g y u v) refl refl refl
-      where
-        by : (t b s : Bool) → too_large g ≡ t → bad_strides g ≡ b → short_by g y u v ≡ s → (too_large g ≡ false) × (bad_strides g ≡ false) × (short_by g y u v ≡ true)
-        by true b s e f h = absurd (n1 (number-large e))
-        by false true s e f h = absurd (n2 (number-strides e f))
-        by false false true e f h = (e, f, h)
-        by false false false e f h = absurd (n0 (number-none e f h))
-
-    pub is-0 : grid_refusal g y u v ≡ 0 → (too_large g ≡ false) × (bad_strides g ≡ false) × (short_by g y u v ≡ false)
-    is-0 n = by (too_large g) (bad_strides g) (short_by g y u v) refl refl refl
-      where
-        by : (t b s : Bool) → too_large g ≡ t → bad_strides g ≡ b → short_by g y u v ≡ s → (too_large g ≡ false) × (bad_strides g ≡ false) × (short_by g y u v ≡ false)
-        by true b s e f h = absurd (omega (arith, n, number-large e))
-        by false true s e f h = absurd (omega (arith, n, number-strides e f))
-        by false false true e f h = absurd (omega (arith, n, number_short e f h))
-        by false false false e f h = (e, f, h)

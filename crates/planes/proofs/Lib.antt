@@ -15,3 +15,5 @@ pub mod RowsFirst
 pub mod Commute
 pub mod GridLaws
 pub mod PastGrid
+-- A picture that is lent on.
+pub mod Loans

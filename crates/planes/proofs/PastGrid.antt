@@ -9,7 +9,7 @@ use lib.ListN.{length}
 use borrow.Author.Tests.{ltb-false, eq-eqb, ne_eqb}
 use Rattle.planes.specs.Planes.{Plane, luma, chroma_u, chroma_v, Planes, Grid, side, stride, plane, macroblocks, StridesHold, PlanesHold}
 use Rattle.planes.specs.GridRefusals.{zero_grid, too_large, bad_strides, needed, short_planes, after_grid, past_grid, grid_refusal}
-use Rattle.planes.proofs.GridLaws.{neither, none, grid-fits, by_lengths}
+use Rattle.planes.proofs.GridLaws.{neither, none, grid_fits, by_lengths}
 
 true-false : {A : Type 0} → true ≡ false → A
 true-false e = let z : ◌≡◌ {A = ℕ} 0 1 = cc in absurd (omega arith)
@@ -124,7 +124,7 @@ with-grid {A} g p e f h = by (zero_grid g) refl
 -- a grid that is not refused has at most 1024 × 1024 macroblocks
 pub macroblocks-most : (g : Grid) (p : Planes) → past_grid g p 0 ≡ 0 → macroblocks g ≤ 1048576
 macroblocks-most g p e =
-    with-grid g p e (λ z. omega (arith, none g z)) (λ z ok. grid-fits g.columns g.rows ok.few.columns ok.few.rows)
+    with-grid g p e (λ z. omega (arith, none g z)) (λ z ok. grid_fits g.columns g.rows ok.few.columns ok.few.rows)
 
 -- ---- what comes after them
 

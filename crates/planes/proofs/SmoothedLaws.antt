@@ -2,12 +2,12 @@
 use mathlib.Core.Path.{◌≡◌, refl, ap, ◌∙◌}
 use mathlib.Core.Bool.{Bool, true, false}
 use mathlib.Core.List.{List, [], ◌∷◌, ◌++◌}
-use Prim.Native.Nat.{ℕ, ◌+◌, ◌*◌, ◌≤◌}
+use Prim.Native.Nat.{ℕ, ◌+◌, ◌≤◌}
 use native.Mathlib.Omega.{arith}
-use Rattle.kernels.specs.Segment.{Kernel, segment, passes_at, mark}
+use Rattle.kernels.specs.Segment.{segment, passes_at, mark}
 use Rattle.kernels.proofs.SegmentLaws.{mark-most}
-use Rattle.planes.specs.Planes.{Plane, luma, chroma_u, chroma_v, Planes, Grid, side, plane, on_plane, grid_row, grid_column}
-use Rattle.planes.specs.Edges.{Direction, vertical, horizontal, Edge, edge_tap, filter_edge, Place, border, within, borders, insides, places}
+use Rattle.planes.specs.Planes.{Planes, Grid, side, plane, on_plane, grid_row, grid_column}
+use Rattle.planes.specs.Edges.{Edge, edge_tap, filter_edge, Place, border, within, borders, insides, places}
 use Rattle.planes.specs.Macroblock.{Plan, leave, filter, filtered, lead, only, edge_at, edges_at}
 use Rattle.planes.specs.Smoothed.{edge_smoothed, edges_smoothed, macroblock_smoothed}
 use Rattle.planes.proofs.Tally.{tally-most}

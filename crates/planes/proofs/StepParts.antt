@@ -1,14 +1,11 @@
 -- A macroblock's step in parts.
 use mathlib.Core.Path.{◌≡◌, refl, sym, ap, ◌∙◌}
-use mathlib.Core.Bool.{Bool, true, false, cond}
 use mathlib.Core.List.{List, [], ◌∷◌, ◌++◌, append_assoc}
-use Prim.Native.Nat.{ℕ, ◌<◌}
-use lib.Dec.{ltb, lt→ltb}
+use Prim.Native.Nat.{ℕ}
 use Rattle.kernels.specs.Segment.{Kernel}
-use Rattle.planes.specs.Planes.{Plane, luma, chroma_u, chroma_v, Planes, Grid, on_plane, grid_row, grid_column}
-use Rattle.planes.specs.Edges.{Direction, vertical, horizontal, Edge, filter_edge, Place, borders, insides, places}
-use Rattle.planes.specs.Macroblock.{Plan, leave, filter, filtered, lead, only, edge_at, edges_at, filter_edges, filter_macroblock}
-use borrow.Author.Tests.{lt-ltb}
+use Rattle.planes.specs.Planes.{Plane, Planes, Grid, on_plane, grid_row, grid_column}
+use Rattle.planes.specs.Edges.{Direction, Edge, filter_edge, Place, places}
+use Rattle.planes.specs.Macroblock.{Plan, leave, edge_at, edges_at, filter_edges, filter_macroblock}
 
 pub edges_at-append : (plan : Plan) (r c : ℕ) (front back : List Place) → edges_at plan r c (front ++ back) ≡ edges_at plan r c front ++ edges_at plan r c back
 unfolding edges_at

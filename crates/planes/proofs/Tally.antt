@@ -1,7 +1,7 @@
 -- Laws of what is counted over numbered steps.
 use mathlib.Core.Path.{◌≡◌, refl, sym, ap, ap₂, ◌∙◌}
-use Prim.Native.Nat.{ℕ, zero, suc, ◌+◌, ◌-◌, ◌*◌, ◌≤◌, ◌<◌}
-use native.Mathlib.Nat.{suc-add, add-suc, zero-add, add-zero, add_assoc, mul-suc, mul-zero}
+use Prim.Native.Nat.{ℕ, zero, suc, ◌+◌, ◌*◌, ◌≤◌, ◌<◌}
+use native.Mathlib.Nat.{suc-add, add-suc, zero-add, add-zero, add_assoc, mul-suc}
 use native.Mathlib.Omega.{arith}
 use Rattle.planes.specs.Steps.{steps, tally}
 

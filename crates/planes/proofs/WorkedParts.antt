@@ -7,9 +7,9 @@ use native.Mathlib.Omega.{arith}
 use lib.Dec.{ltb}
 use borrow.Author.Tests.{lt-ltb}
 use Rattle.kernels.specs.Segment.{Kernel}
-use Rattle.planes.specs.Planes.{Plane, luma, chroma_u, chroma_v, Planes, Grid, plane, on_plane, grid_row, grid_column}
+use Rattle.planes.specs.Planes.{Plane, luma, chroma_u, chroma_v, Grid, plane, on_plane, grid_row, grid_column}
 use Rattle.planes.specs.Edges.{Direction, vertical, horizontal, Edge, filter_edge, Place, borders, insides, places}
-use Rattle.planes.specs.Macroblock.{Plan, leave, filter, filtered, lead, only, edge_at, edges_at, filter_edges, filter_macroblock}
+use Rattle.planes.specs.Macroblock.{Plan, filter, filtered, lead, only, edge_at, edges_at, filter_edges, filter_macroblock}
 use Rattle.planes.specs.Smoothed.{edge_smoothed, edges_smoothed, macroblock_smoothed}
 use Rattle.planes.specs.Private.Worked.{Worked, work_edge, WorkedPlanes, samples_of, total_of}
 use Rattle.planes.proofs.StepParts.{edges_at-append, edge_of}

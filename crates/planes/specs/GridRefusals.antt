@@ -1,5 +1,7 @@
 -- Document 01, who can cause which refusal: the conditions on a grid, its strides and its planes. All numbers are natural, so no product wraps.
-use Rattle.std.specs.Prelude.{Bool, cond, ◌||◌, ℕ, ◌+◌, ◌-◌, ◌*◌, ltb, eqb, length}
+use Rattle.std.specs.Prelude.{Bool, cond, ◌||◌, ℕ, ◌+◌, ◌-◌, ◌*◌, ltb, eqb, length, Result, Ok, Err}
+use Rattle.planes.specs.declared.grid.GridRefusal.{GridRefusal}
+use Rattle.planes.specs.declared.grid.GridRefusal.TheVariants.{TooLarge, BadStrides, ShortPlane}
 use Rattle.planes.specs.Planes.{Plane, luma, chroma_u, chroma_v, Planes, Grid, side, stride, plane}
 
 -- zero columns or rows: answered before any refusal
@@ -40,3 +42,16 @@ short_by g y u v = ltb y (needed g luma) || ltb u (needed g chroma_u) || ltb v (
 -- 1, 2 or 3, or 0: `proofs/GridLaws.antt` has that it is `past_grid` of planes of these lengths
 unfoldable pub grid_refusal : Grid → (y u v : ℕ) → ℕ
 grid_refusal g y u v = cond (zero_grid g) 0 (cond (too_large g) 1 (cond (bad_strides g) 2 (cond (short_by g y u v) 3 0)))
+
+-- ---- as the code answers it
+
+abbrev pub grid_refusal_number : GridRefusal → ℕ
+grid_refusal_number TooLarge = 1
+grid_refusal_number BadStrides = 2
+grid_refusal_number ShortPlane = 3
+
+-- the contract of `judge` has that its number is `grid_refusal`
+unfoldable pub grid_answer : Grid → (y u v : ℕ) → Result Unit GridRefusal
+grid_answer g y u v =
+    cond (zero_grid g) (Ok tt)
+    (cond (too_large g) (Err TooLarge) (cond (bad_strides g) (Err BadStrides) (cond (short_by g y u v) (Err ShortPlane) (Ok tt))))

@@ -8,6 +8,8 @@ pub mod Reach
 pub mod GridRefusals
 -- the grid that a caller's planes record names
 pub mod Layout
+-- a picture that is lent
+pub mod Pictures
 -- macroblocks, computed
 pub mod Examples
 -- what private functions promise each other: steps of the proof, which no public contract cites

@@ -1,158 +1,117 @@
-// The blocks of a recorded call and the numbers in them.
+// The numbers of a recorded call, the settings and the answer. Numbers have their smallest byte first.
+// A recording that ends within a record is an error of the program.
 use levels::config::FrameFilterConfig;
 use planes::layout::PlaneLayout;
 use std::io;
 use std::io::Read;
 
-// Whether the whole block was read; it was not where the input ends in it.
-pub fn fill(rt: &impl Input, block: &mut [u8]) -> io::Result<bool> {
-    let mut input = rt.reader();
-    let mut done = 0;
-    while done < block.len() {
-        let count = input.read(&mut block[done..])?;
-        if count == 0 {
-            return Ok(false);
-        }
-        done += count;
-    }
-    Ok(true)
+pub fn read_array<const N: usize>(rt: &impl Input) -> io::Result<[u8; N]> {
+    let mut block = [0u8; N];
+    rt.reader().read_exact(&mut block)?;
+    Ok(block)
 }
 
-// Two bytes, the smallest first.
-pub fn pair(a: u8, b: u8) -> u16 {
-    a as u16 + 256 * (b as u16)
+pub fn read_u8(rt: &impl Input) -> io::Result<u8> {
+    let [byte]: [u8; 1] = read_array(rt)?;
+    Ok(byte)
 }
 
-// Four bytes, the smallest first.
-pub fn number(a: u8, b: u8, c: u8, d: u8) -> u32 {
-    let low = a as u32 + 256 * (b as u32);
-    let high = c as u32 + 256 * (d as u32);
-    low + 65536 * high
+pub fn read_flag(rt: &impl Input) -> io::Result<bool> {
+    Ok(read_u8(rt)? != 0)
+}
+
+pub fn read_u16(rt: &impl Input) -> io::Result<u16> {
+    Ok(u16::from_le_bytes(read_array(rt)?))
 }
 
 // The largest number of four bytes stands for the largest size.
-pub fn size(a: u8, b: u8, c: u8, d: u8) -> usize {
-    let n = number(a, b, c, d);
-    if n == 4294967295 {
-        18446744073709551615
+pub fn read_size(rt: &impl Input) -> io::Result<usize> {
+    let n = u32::from_le_bytes(read_array(rt)?);
+    if n == u32::MAX {
+        Ok(usize::MAX)
     } else {
-        n as usize
+        Ok(n as usize)
     }
 }
 
 // Written 2147483648 above its value.
-pub fn signed32(a: u8, b: u8, c: u8, d: u8) -> i32 {
-    let n = number(a, b, c, d);
-    if n < 2147483648 {
-        !((2147483647 - n) as i32)
-    } else {
-        (n - 2147483648) as i32
-    }
+pub fn read_i32(rt: &impl Input) -> io::Result<i32> {
+    let n = u32::from_le_bytes(read_array(rt)?);
+    Ok((i64::from(n) - 2147483648) as i32)
 }
 
 // Written 32768 above its value.
-pub fn signed16(a: u8, b: u8) -> i16 {
-    let n = pair(a, b);
-    if n < 32768 {
-        !((32767 - n) as i16)
-    } else {
-        (n - 32768) as i16
-    }
+pub fn read_i16(rt: &impl Input) -> io::Result<i16> {
+    let n = read_u16(rt)?;
+    Ok((i32::from(n) - 32768) as i16)
 }
 
 // Written 128 above its value.
-pub fn signed8(a: u8) -> i8 {
-    if a < 128 {
-        !((127 - a) as i8)
-    } else {
-        (a - 128) as i8
-    }
+pub fn read_i8(rt: &impl Input) -> io::Result<i8> {
+    let n = read_u8(rt)?;
+    Ok((i16::from(n) - 128) as i8)
 }
 
-// Where and how a call works. `whole`: all of its bytes were there.
+// Where and how a call works.
 #[derive(Clone, Copy)]
 pub struct Place {
     pub layout: PlaneLayout,
     pub start: usize,
     pub allowance: usize,
-    pub whole: bool,
 }
 
 pub fn read_place(rt: &impl Input) -> io::Result<Place> {
-    let mut b = [0u8; 24];
-    let whole = fill(rt, &mut b)?;
     let layout = PlaneLayout {
-        mb_cols: size(b[0], b[1], b[2], b[3]),
-        mb_rows: size(b[4], b[5], b[6], b[7]),
-        y_stride: size(b[8], b[9], b[10], b[11]),
-        uv_stride: size(b[12], b[13], b[14], b[15]),
+        mb_cols: read_size(rt)?,
+        mb_rows: read_size(rt)?,
+        y_stride: read_size(rt)?,
+        uv_stride: read_size(rt)?,
     };
     Ok(Place {
-        layout: layout,
-        start: size(b[16], b[17], b[18], b[19]),
-        allowance: size(b[20], b[21], b[22], b[23]),
-        whole: whole,
+        layout,
+        start: read_size(rt)?,
+        allowance: read_size(rt)?,
     })
 }
 
-fn settings_of(b: &[u8; 31]) -> FrameFilterConfig {
-    let segments = [
-        signed16(b[7], b[8]),
-        signed16(b[9], b[10]),
-        signed16(b[11], b[12]),
-        signed16(b[13], b[14]),
-    ];
-    FrameFilterConfig {
-        simple: b[0] != 0,
-        key_frame: b[1] != 0,
-        loop_filter_level: b[2],
-        sharpness_level: b[3],
-        segmentation_enabled: b[4] != 0,
-        segment_abs: b[5] != 0,
-        segment_lf_level: segments,
-        delta_enabled: b[6] != 0,
-        ref_delta_current: signed16(b[15], b[16]),
-        bpred_mode_delta: signed16(b[17], b[18]),
-        ref_delta_last: signed16(b[19], b[20]),
-        ref_delta_golden: signed16(b[21], b[22]),
-        ref_delta_altref: signed16(b[23], b[24]),
-        zero_mv_mode_delta: signed16(b[25], b[26]),
-        other_mv_mode_delta: signed16(b[27], b[28]),
-        split_mv_mode_delta: signed16(b[29], b[30]),
+fn read_segment_numbers(rt: &impl Input) -> io::Result<[i16; 4]> {
+    Ok([read_i16(rt)?, read_i16(rt)?, read_i16(rt)?, read_i16(rt)?])
+}
+
+pub fn read_settings(rt: &impl Input) -> io::Result<FrameFilterConfig> {
+    Ok(FrameFilterConfig {
+        simple: read_flag(rt)?,
+        key_frame: read_flag(rt)?,
+        loop_filter_level: read_u8(rt)?,
+        sharpness_level: read_u8(rt)?,
+        segmentation_enabled: read_flag(rt)?,
+        segment_abs: read_flag(rt)?,
+        delta_enabled: read_flag(rt)?,
+        segment_lf_level: read_segment_numbers(rt)?,
+        ref_delta_current: read_i16(rt)?,
+        bpred_mode_delta: read_i16(rt)?,
+        ref_delta_last: read_i16(rt)?,
+        ref_delta_golden: read_i16(rt)?,
+        ref_delta_altref: read_i16(rt)?,
+        zero_mv_mode_delta: read_i16(rt)?,
+        other_mv_mode_delta: read_i16(rt)?,
+        split_mv_mode_delta: read_i16(rt)?,
+    })
+}
+
+// A recorded answer: a refusal by its number, or 0, and then two numbers.
+pub fn read_recorded(rt: &impl Input) -> io::Result<Result<(usize, usize), u8>> {
+    let refusal = read_u8(rt)?;
+    let first = read_size(rt)?;
+    let second = read_size(rt)?;
+    Ok(recorded(refusal, (first, second)))
+}
+
+// The number of a refusal, or 0 for the value.
+pub fn recorded<T: Copy>(refusal: u8, value: T) -> Result<T, u8> {
+    if refusal == 0 {
+        Ok(value)
+    } else {
+        Err(refusal)
     }
-}
-
-#[derive(Clone, Copy)]
-pub struct Settings {
-    pub config: FrameFilterConfig,
-    pub whole: bool,
-}
-
-pub fn read_settings(rt: &impl Input) -> io::Result<Settings> {
-    let mut b = [0u8; 31];
-    let whole = fill(rt, &mut b)?;
-    Ok(Settings {
-        config: settings_of(&b),
-        whole: whole,
-    })
-}
-
-// A number of a refusal, or 0, and two numbers.
-#[derive(Clone, Copy)]
-pub struct Recorded {
-    pub refusal: u8,
-    pub first: usize,
-    pub second: usize,
-    pub whole: bool,
-}
-
-pub fn read_recorded(rt: &impl Input) -> io::Result<Recorded> {
-    let mut b = [0u8; 9];
-    let whole = fill(rt, &mut b)?;
-    Ok(Recorded {
-        refusal: b[0],
-        first: size(b[1], b[2], b[3], b[4]),
-        second: size(b[5], b[6], b[7], b[8]),
-        whole: whole,
-    })
 }

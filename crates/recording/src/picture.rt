@@ -1,89 +1,64 @@
-// Pictures of four macroblocks. The planes are longer than the grids need, so that strides can be wider; u and v differ in length, so that v alone can be too short.
-use crate::input::fill;
+// Pictures and byte lists as recorded, by their sizes.
+use crate::input::read_array;
 use std::io;
 
-#[derive(Clone, Copy)]
-pub struct Picture {
-    pub y: [u8; 1280],
-    pub u: [u8; 352],
-    pub v: [u8; 348],
-    pub whole: bool,
+// Three planes. They can be longer than the grids of recorded calls need, so that strides can be wider, and differ in length, so that one alone can be too short.
+#[derive(Clone, Copy, PartialEq, Eq)]
+pub struct Planes<const Y: usize, const U: usize, const V: usize> {
+    pub y: [u8; Y],
+    pub u: [u8; U],
+    pub v: [u8; V],
 }
 
-pub fn read_picture(rt: &impl Input) -> io::Result<Picture> {
-    let mut y = [0u8; 1280];
-    let mut u = [0u8; 352];
-    let mut v = [0u8; 348];
-    let whole = fill(rt, &mut y)? & fill(rt, &mut u)? & fill(rt, &mut v)?;
-    Ok(Picture {
-        y: y,
-        u: u,
-        v: v,
-        whole: whole,
+// A picture of four macroblocks.
+pub type Picture = Planes<1280, 352, 348>;
+
+pub fn read_planes<const Y: usize, const U: usize, const V: usize>(
+    rt: &impl Input,
+) -> io::Result<Planes<Y, U, V>> {
+    Ok(Planes {
+        y: read_array(rt)?,
+        u: read_array(rt)?,
+        v: read_array(rt)?,
     })
 }
 
 // Nothing flat, so that filtering shows.
-pub fn stripe(plane: &mut [u8]) {
-    let mut i = 0;
-    while i < plane.len() {
-        plane[i] = if i % 7 < 3 { 100 } else { 108 };
-        i += 1;
+fn stripe<const N: usize>() -> [u8; N] {
+    let mut plane = [100u8; N];
+    for (i, sample) in plane.iter_mut().enumerate() {
+        if i % 7 >= 3 {
+            *sample = 108;
+        }
     }
+    plane
 }
 
 // What a call that changes nothing is lent.
-pub fn stripes() -> Picture {
-    let mut y = [0u8; 1280];
-    let mut u = [0u8; 352];
-    let mut v = [0u8; 348];
-    stripe(&mut y);
-    stripe(&mut u);
-    stripe(&mut v);
-    Picture {
-        y: y,
-        u: u,
-        v: v,
-        whole: true,
+pub fn stripes<const Y: usize, const U: usize, const V: usize>() -> Planes<Y, U, V> {
+    Planes {
+        y: stripe(),
+        u: stripe(),
+        v: stripe(),
     }
 }
 
-// Every sample, also those outside the grid.
-pub fn same_picture(a: Picture, b: Picture) -> bool {
-    let y = a.y;
-    let u = a.u;
-    let v = a.v;
-    let y1 = b.y;
-    let u1 = b.u;
-    let v1 = b.v;
-    a.whole & b.whole & (y == y1) & (u == u1) & (v == v1)
-}
-
-// Document 01's byte lists.
+// Document 01's byte lists, for N macroblocks.
 #[derive(Clone, Copy)]
-pub struct Lists {
-    pub modes: [u8; 4],
-    pub segments: [u8; 4],
-    pub flags: [u8; 4],
-    pub references: [u8; 4],
-    pub inter_modes: [u8; 4],
-    pub whole: bool,
+pub struct Lists<const N: usize> {
+    pub modes: [u8; N],
+    pub segments: [u8; N],
+    pub flags: [u8; N],
+    pub references: [u8; N],
+    pub inter_modes: [u8; N],
 }
 
-pub fn read_lists(rt: &impl Input) -> io::Result<Lists> {
-    let mut modes = [0u8; 4];
-    let mut segments = [0u8; 4];
-    let mut flags = [0u8; 4];
-    let mut references = [0u8; 4];
-    let mut inter_modes = [0u8; 4];
-    let first = fill(rt, &mut modes)? & fill(rt, &mut segments)? & fill(rt, &mut flags)?;
-    let whole = first & fill(rt, &mut references)? & fill(rt, &mut inter_modes)?;
+pub fn read_lists<const N: usize>(rt: &impl Input) -> io::Result<Lists<N>> {
     Ok(Lists {
-        modes: modes,
-        segments: segments,
-        flags: flags,
-        references: references,
-        inter_modes: inter_modes,
-        whole: whole,
+        modes: read_array(rt)?,
+        segments: read_array(rt)?,
+        flags: read_array(rt)?,
+        references: read_array(rt)?,
+        inter_modes: read_array(rt)?,
     })
 }

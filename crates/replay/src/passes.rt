@@ -1,238 +1,208 @@
-// The passes over byte lists. Each function replays one recorded call, or two.
-use calls::answers::{PassAnswer, pass_refusal_number};
-use frame::pass::{filter_frame, filter_inter_frame};
-use frame_calls::frame_call::{loop_filter_frame, loop_filter_inter_frame};
+// The passes and frame calls. Each function replays one recorded call, or two.
+use crate::records::read_records;
+use calls::answers::PassRefusal;
+use calls::records::MacroblockModes;
+use frame::entries::{InterLists, InterRecords, KeyLists, KeyRecords};
+use frame::pass::filter_frame;
+use frame_calls::frame_call::loop_filter_frame;
+use judge::entries::Entries;
 use levels::config::FrameFilterConfig;
-use recording::input::{Place, Recorded, read_place, read_recorded, read_settings};
-use recording::marks::mark;
-use recording::picture::{Lists, Picture, read_lists, read_picture, same_picture, stripes};
+use planes::picture::PictureMut;
+use recording::input::{Place, read_place, read_recorded, read_settings};
+use recording::marks::{answered, mark};
+use recording::picture::{Lists, Picture, Planes, read_lists, read_planes, stripes};
 use std::io;
 
-// What a pass answers and leaves.
 #[derive(Clone, Copy)]
-pub struct Left {
-    pub answer: PassAnswer,
-    pub picture: Picture,
-}
-
-pub fn answered(answer: PassAnswer, r: Recorded) -> bool {
-    match answer {
-        PassAnswer::Done {
-            count,
-            next,
-            smoothed: _,
-        } => { (r.refusal == 0) & (count == r.first) & (next == r.second) }
-        PassAnswer::Refused(refusal) => r.refusal == pass_refusal_number(refusal),
-    }
-}
-
-pub fn make_left(
-    answer: PassAnswer,
-    y: [u8; 1280],
-    u: [u8; 352],
-    v: [u8; 348],
-    whole: bool,
-) -> Left {
-    let picture = Picture {
-        y: y,
-        u: u,
-        v: v,
-        whole: whole,
-    };
-    Left {
-        answer: answer,
-        picture: picture,
-    }
-}
-
-// By arrays, whose lengths need no proof.
-fn filter_key(
-    frame: bool,
-    y: &mut [u8; 1280],
-    u: &mut [u8; 352],
-    v: &mut [u8; 348],
-    p: Place,
-    config: FrameFilterConfig,
-    modes: &[u8; 4],
-    segments: &[u8; 4],
-    flags: &[u8; 4],
-) -> PassAnswer {
-    if frame {
-        return loop_filter_frame(
-            y,
-            u,
-            v,
-            p.layout,
-            modes,
-            segments,
-            flags,
-            config,
-            p.start,
-            p.allowance,
-        );
-    }
-    filter_frame(
-        y,
-        u,
-        v,
-        p.layout,
-        modes,
-        segments,
-        flags,
-        config,
-        p.start,
-        p.allowance,
-    )
-}
-
-fn key(frame: bool, before: Picture, p: Place, config: FrameFilterConfig, l: Lists) -> Left {
-    let mut y = before.y;
-    let mut u = before.u;
-    let mut v = before.v;
-    let modes = l.modes;
-    let segments = l.segments;
-    let flags = l.flags;
-    let answer = filter_key(
-        frame, &mut y, &mut u, &mut v, p, config, &modes, &segments, &flags,
-    );
-    make_left(answer, y, u, v, before.whole)
-}
-
-fn filter_inter(
-    frame: bool,
-    y: &mut [u8; 1280],
-    u: &mut [u8; 352],
-    v: &mut [u8; 348],
-    p: Place,
-    config: FrameFilterConfig,
-    modes: &[u8; 4],
-    segments: &[u8; 4],
-    flags: &[u8; 4],
-    references: &[u8; 4],
-    inter_modes: &[u8; 4],
-) -> PassAnswer {
-    if frame {
-        return loop_filter_inter_frame(
-            y,
-            u,
-            v,
-            p.layout,
-            modes,
-            segments,
-            flags,
-            references,
-            inter_modes,
-            config,
-            p.start,
-            p.allowance,
-        );
-    }
-    filter_inter_frame(
-        y,
-        u,
-        v,
-        p.layout,
-        modes,
-        segments,
-        flags,
-        references,
-        inter_modes,
-        config,
-        p.start,
-        p.allowance,
-    )
-}
-
-fn inter(frame: bool, before: Picture, p: Place, config: FrameFilterConfig, l: Lists) -> Left {
-    let mut y = before.y;
-    let mut u = before.u;
-    let mut v = before.v;
-    let modes = l.modes;
-    let segments = l.segments;
-    let flags = l.flags;
-    let references = l.references;
-    let inter_modes = l.inter_modes;
-    let answer = filter_inter(
-        frame,
-        &mut y,
-        &mut u,
-        &mut v,
-        p,
-        config,
-        &modes,
-        &segments,
-        &flags,
-        &references,
-        &inter_modes,
-    );
-    make_left(answer, y, u, v, before.whole)
+pub enum Frames {
+    Key,
+    Inter,
 }
 
 // A pass, or the frame call beside it.
-fn pass(
-    of_key: bool,
-    frame: bool,
-    before: Picture,
-    p: Place,
+#[derive(Clone, Copy)]
+pub enum Call {
+    Pass,
+    Frame,
+}
+
+// What a call answers, the count and the next start, and what it leaves.
+#[derive(Clone, Copy)]
+struct Left<const Y: usize, const U: usize, const V: usize> {
+    answer: Result<(usize, usize), PassRefusal>,
+    planes: Planes<Y, U, V>,
+}
+
+fn over<const Y: usize, const U: usize, const V: usize, E: Entries>(
+    call: Call,
+    before: Planes<Y, U, V>,
+    place: Place,
+    entries: E,
     config: FrameFilterConfig,
-    l: Lists,
-) -> Left {
-    if of_key {
-        key(frame, before, p, config, l)
-    } else {
-        inter(frame, before, p, config, l)
+) -> Left<Y, U, V> {
+    let Planes {
+        mut y,
+        mut u,
+        mut v,
+    } = before;
+    let mut picture = PictureMut {
+        y: &mut y,
+        u: &mut u,
+        v: &mut v,
+    };
+    let Place {
+        layout,
+        start,
+        allowance,
+    } = place;
+    let answer = match call {
+        Call::Pass => filter_frame(&mut picture, layout, entries, config, start, allowance),
+        Call::Frame => loop_filter_frame(&mut picture, layout, entries, config, start, allowance),
+    };
+    Left {
+        answer: answer.map(|done| (done.count, done.next)),
+        planes: Planes { y, u, v },
     }
 }
 
-pub fn is_left(left: Left, after: Picture, r: Recorded) -> bool {
-    let answer = left.answer;
-    let now = left.picture;
-    r.whole & answered(answer, r) & same_picture(now, after)
+fn over_lists<const Y: usize, const U: usize, const V: usize, const N: usize>(
+    frames: Frames,
+    call: Call,
+    before: Planes<Y, U, V>,
+    place: Place,
+    lists: Lists<N>,
+    config: FrameFilterConfig,
+) -> Left<Y, U, V> {
+    let key = KeyLists {
+        modes: &lists.modes,
+        segments: &lists.segments,
+        flags: &lists.flags,
+    };
+    let inter = InterLists {
+        key,
+        references: &lists.references,
+        inter_modes: &lists.inter_modes,
+    };
+    match frames {
+        Frames::Key => over(call, before, place, key, config),
+        Frames::Inter => over(call, before, place, inter, config),
+    }
+}
+
+fn over_records(
+    frames: Frames,
+    call: Call,
+    before: Picture,
+    place: Place,
+    list: [MacroblockModes; 4],
+    config: FrameFilterConfig,
+) -> Left<1280, 352, 348> {
+    let key = KeyRecords { list: &list };
+    let inter = InterRecords { list: &list };
+    match frames {
+        Frames::Key => over(call, before, place, key, config),
+        Frames::Inter => over(call, before, place, inter, config),
+    }
+}
+
+// Every sample, also those outside the grid.
+fn is_left<const Y: usize, const U: usize, const V: usize>(
+    left: Left<Y, U, V>,
+    wanted: Result<(usize, usize), u8>,
+    after: Planes<Y, U, V>,
+) -> bool {
+    answered(left.answer, wanted) & (left.planes == after)
 }
 
 // Place, settings, lists, the answer, the picture before and after.
-pub fn replay_pass(rt: &impl Input, of_key: bool, frame: bool) -> io::Result<bool> {
-    let p = read_place(rt)?;
-    let s = read_settings(rt)?;
-    let l = read_lists(rt)?;
-    let r = read_recorded(rt)?;
-    let before = read_picture(rt)?;
-    let after = read_picture(rt)?;
-    let left = pass(of_key, frame, before, p, s.config, l);
-    Ok(p.whole & s.whole & l.whole & is_left(left, after, r))
+pub fn replay_pass(rt: &impl Input, frames: Frames, call: Call) -> io::Result<bool> {
+    let place = read_place(rt)?;
+    let config = read_settings(rt)?;
+    let lists: Lists<4> = read_lists(rt)?;
+    let wanted = read_recorded(rt)?;
+    let before: Picture = read_planes(rt)?;
+    let after = read_planes(rt)?;
+    let left = over_lists(frames, call, before, place, lists, config);
+    Ok(is_left(left, wanted, after))
 }
 
 // The same without pictures: nothing may change.
-pub fn replay_idle(rt: &impl Input, of_key: bool, frame: bool) -> io::Result<bool> {
-    let p = read_place(rt)?;
-    let s = read_settings(rt)?;
-    let l = read_lists(rt)?;
-    let r = read_recorded(rt)?;
-    let left = pass(of_key, frame, stripes(), p, s.config, l);
-    Ok(p.whole & s.whole & l.whole & is_left(left, stripes(), r))
+pub fn replay_idle(rt: &impl Input, frames: Frames, call: Call) -> io::Result<bool> {
+    let place = read_place(rt)?;
+    let config = read_settings(rt)?;
+    let lists: Lists<4> = read_lists(rt)?;
+    let wanted = read_recorded(rt)?;
+    let before: Picture = stripes();
+    let left = over_lists(frames, call, before, place, lists, config);
+    Ok(is_left(left, wanted, before))
 }
 
 // A halted call and the one that goes on where it ended, to the end of the grid.
-pub fn replay_halted(rt: &(impl Input + Print), of_key: bool, frame: bool) -> io::Result<bool> {
-    let p = read_place(rt)?;
-    let s = read_settings(rt)?;
-    let l = read_lists(rt)?;
-    let before = read_picture(rt)?;
-    let r1 = read_recorded(rt)?;
-    let middle = read_picture(rt)?;
-    let r2 = read_recorded(rt)?;
-    let after = read_picture(rt)?;
-    let first = pass(of_key, frame, before, p, s.config, l);
-    let halted = first.picture;
-    let layout = p.layout;
+pub fn replay_halted(rt: &(impl Input + Print), frames: Frames, call: Call) -> io::Result<bool> {
+    let place = read_place(rt)?;
+    let config = read_settings(rt)?;
+    let lists: Lists<4> = read_lists(rt)?;
+    let before: Picture = read_planes(rt)?;
+    let halted = read_recorded(rt)?;
+    let middle = read_planes(rt)?;
+    let resumed = read_recorded(rt)?;
+    let after = read_planes(rt)?;
+    let first = over_lists(frames, call, before, place, lists, config);
+    mark(rt, is_left(first, halted, middle))?;
     let rest = Place {
-        layout: layout,
-        start: r1.second,
-        allowance: 18446744073709551615,
-        whole: p.whole,
+        start: halted.map_or(0, |(_, next)| next),
+        allowance: usize::MAX,
+        ..place
     };
-    let second = pass(of_key, frame, halted, rest, s.config, l);
-    let whole = p.whole & s.whole & l.whole;
-    mark(rt, whole & is_left(first, middle, r1))?;
-    Ok(whole & is_left(second, after, r2))
+    let second = over_lists(frames, call, first.planes, rest, lists, config);
+    Ok(is_left(second, resumed, after))
+}
+
+// Place, settings, records, the answer, the picture before and after.
+pub fn replay_records(rt: &impl Input, frames: Frames, call: Call) -> io::Result<bool> {
+    let place = read_place(rt)?;
+    let config = read_settings(rt)?;
+    let list = read_records(rt)?;
+    let wanted = read_recorded(rt)?;
+    let before = read_planes(rt)?;
+    let after = read_planes(rt)?;
+    let left = over_records(frames, call, before, place, list, config);
+    Ok(is_left(left, wanted, after))
+}
+
+// The same without pictures: nothing may change.
+pub fn replay_idle_records(rt: &impl Input, frames: Frames, call: Call) -> io::Result<bool> {
+    let place = read_place(rt)?;
+    let config = read_settings(rt)?;
+    let list = read_records(rt)?;
+    let wanted = read_recorded(rt)?;
+    let before = stripes();
+    let left = over_records(frames, call, before, place, list, config);
+    Ok(is_left(left, wanted, before))
+}
+
+// Frames of recorded film: place, settings, the answer, lists, the planes before and after. Not one function over the sizes: each call in it would owe that planes of any size fit in memory.
+
+// 64 by 64 samples.
+pub fn replay_film64(rt: &impl Input, frames: Frames) -> io::Result<bool> {
+    let place = read_place(rt)?;
+    let config = read_settings(rt)?;
+    let wanted = read_recorded(rt)?;
+    let lists: Lists<16> = read_lists(rt)?;
+    let before: Planes<4096, 1024, 1024> = read_planes(rt)?;
+    let after = read_planes(rt)?;
+    let left = over_lists(frames, Call::Pass, before, place, lists, config);
+    Ok(is_left(left, wanted, after))
+}
+
+// 16 by 16 samples.
+pub fn replay_film16(rt: &impl Input, frames: Frames) -> io::Result<bool> {
+    let place = read_place(rt)?;
+    let config = read_settings(rt)?;
+    let wanted = read_recorded(rt)?;
+    let lists: Lists<1> = read_lists(rt)?;
+    let before: Planes<256, 64, 64> = read_planes(rt)?;
+    let after = read_planes(rt)?;
+    let left = over_lists(frames, Call::Pass, before, place, lists, config);
+    Ok(is_left(left, wanted, after))
 }

@@ -1,75 +1,32 @@
-// Macroblock records, six bytes each: mode, whether there is a segment, segment, flag, reference, inter mode.
-use calls::records::{MacroblockModes, MaybeSegment};
-use levels::modes::{InterMode, IntraYMode, MaybeInter, MaybeRef, RefFrame};
-use recording::input::fill;
+// Macroblock records, six bytes each: mode, whether there is a segment, segment, flag, reference, inter mode. A byte without a case counts as the last one.
+use calls::records::MacroblockModes;
+use levels::cases::{inter_mode_case, reference_case};
+use levels::modes::{InterMode, IntraYMode, RefFrame};
+use recording::input::{read_flag, read_u8};
 use std::io;
 
-fn mode(byte: u8) -> IntraYMode {
-    match byte {
-        0 => IntraYMode::Dc,
-        1 => IntraYMode::V,
-        2 => IntraYMode::H,
-        3 => IntraYMode::Tm,
-        _ => IntraYMode::B,
-    }
+fn read_segment(rt: &impl Input) -> io::Result<Option<u8>> {
+    let present = read_flag(rt)?;
+    let segment = read_u8(rt)?;
+    Ok(if present { Some(segment) } else { None })
 }
 
-fn segment(present: u8, byte: u8) -> MaybeSegment {
-    if present == 0 {
-        MaybeSegment::Absent
-    } else {
-        MaybeSegment::Present(byte)
-    }
-}
-
-fn reference(byte: u8) -> MaybeRef {
-    match byte {
-        0 => MaybeRef::Absent,
-        1 => MaybeRef::Present(RefFrame::Last),
-        2 => MaybeRef::Present(RefFrame::Golden),
-        _ => MaybeRef::Present(RefFrame::AltRef),
-    }
-}
-
-fn inter_mode(byte: u8) -> MaybeInter {
-    match byte {
-        0 => MaybeInter::Absent,
-        1 => MaybeInter::Present(InterMode::Zero),
-        2 => MaybeInter::Present(InterMode::Nearest),
-        3 => MaybeInter::Present(InterMode::Near),
-        4 => MaybeInter::Present(InterMode::New),
-        _ => MaybeInter::Present(InterMode::Split),
-    }
-}
-
-fn record(m: u8, present: u8, s: u8, flag: u8, r: u8, i: u8) -> MacroblockModes {
-    MacroblockModes {
-        y_mode: mode(m),
-        segment_id: segment(present, s),
-        has_coeffs: flag != 0,
-        ref_frame: reference(r),
-        inter_mode: inter_mode(i),
-    }
+fn read_record(rt: &impl Input) -> io::Result<MacroblockModes> {
+    Ok(MacroblockModes {
+        y_mode: IntraYMode::try_from(read_u8(rt)?).unwrap_or(IntraYMode::B),
+        segment_id: read_segment(rt)?,
+        has_coeffs: read_flag(rt)?,
+        ref_frame: reference_case(read_u8(rt)?).unwrap_or(Some(RefFrame::AltRef)),
+        inter_mode: inter_mode_case(read_u8(rt)?).unwrap_or(Some(InterMode::Split)),
+    })
 }
 
 // One for each macroblock of a picture.
-#[derive(Clone, Copy)]
-pub struct Records {
-    pub list: [MacroblockModes; 4],
-    pub whole: bool,
-}
-
-pub fn read_records(rt: &impl Input) -> io::Result<Records> {
-    let mut b = [0u8; 24];
-    let whole = fill(rt, &mut b)?;
-    let list = [
-        record(b[0], b[1], b[2], b[3], b[4], b[5]),
-        record(b[6], b[7], b[8], b[9], b[10], b[11]),
-        record(b[12], b[13], b[14], b[15], b[16], b[17]),
-        record(b[18], b[19], b[20], b[21], b[22], b[23]),
-    ];
-    Ok(Records {
-        list: list,
-        whole: whole,
-    })
+pub fn read_records(rt: &impl Input) -> io::Result<[MacroblockModes; 4]> {
+    Ok([
+        read_record(rt)?,
+        read_record(rt)?,
+        read_record(rt)?,
+        read_record(rt)?,
+    ])
 }

@@ -1,157 +1,130 @@
 // Numbers, limits, kernels, levels, coefficients and final rows. Each function replays one call.
 use arithmetic::limits::LoopFilterParams;
 use arithmetic::numbers::{clamp_s8, s2u, u2s};
-use calls::answers::pass_refusal_number;
-use calls::final_rows::{FinalRowsAnswer, final_rows};
-use kernels::answers::{AdjustAnswer, KernelAnswer};
+use calls::final_rows::final_rows;
+use kernels::answers::KernelRefusal;
 use kernels::segments::{common_adjust, mb_filter, simple_segment, subblock_filter};
 use levels::coeffs::mb_has_coeffs;
-use levels::level::{LevelAnswer, calculate_mb_filter_level, calculate_mb_filter_level_inter};
+use levels::level::{calculate_mb_filter_level, calculate_mb_filter_level_inter};
 use recording::input::{
-    fill, read_place, read_recorded, read_settings, signed8, signed16, signed32, size,
+    read_array, read_flag, read_i8, read_i16, read_i32, read_place, read_recorded, read_settings,
+    read_size, read_u8, recorded,
 };
+use recording::marks::answered;
 use std::io;
 
 pub fn replay_clamp(rt: &impl Input) -> io::Result<bool> {
-    let mut b = [0u8; 5];
-    let whole = fill(rt, &mut b)?;
-    Ok(whole & (clamp_s8(signed32(b[0], b[1], b[2], b[3])) == signed8(b[4])))
+    let clamped = clamp_s8(read_i32(rt)?);
+    Ok(clamped == read_i8(rt)?)
 }
 
 pub fn replay_u2s(rt: &impl Input) -> io::Result<bool> {
-    let mut b = [0u8; 2];
-    let whole = fill(rt, &mut b)?;
-    Ok(whole & (u2s(b[0]) == signed8(b[1])))
+    let signed = u2s(read_u8(rt)?);
+    Ok(signed == read_i8(rt)?)
 }
 
 pub fn replay_s2u(rt: &impl Input) -> io::Result<bool> {
-    let mut b = [0u8; 5];
-    let whole = fill(rt, &mut b)?;
-    Ok(whole & (s2u(signed32(b[0], b[1], b[2], b[3])) == b[4]))
+    let sample = s2u(read_i32(rt)?);
+    Ok(sample == read_u8(rt)?)
 }
 
+// Level, sharpness and whether it is a key frame; the four limits.
 pub fn replay_derive(rt: &impl Input) -> io::Result<bool> {
-    let mut b = [0u8; 7];
-    let whole = fill(rt, &mut b)?;
-    let p = LoopFilterParams::derive(b[0], b[1], b[2] != 0);
-    Ok(
-        whole
-            & (p.interior_limit == b[3])
-            & (p.hev_threshold == b[4])
-            & (p.mbedge_limit == b[5])
-            & (p.sub_bedge_limit == b[6]),
-    )
+    let params = LoopFilterParams::derive(read_u8(rt)?, read_u8(rt)?, read_flag(rt)?);
+    let limits = [
+        params.interior_limit,
+        params.hev_threshold,
+        params.mbedge_limit,
+        params.sub_bedge_limit,
+    ];
+    let after: [u8; 4] = read_array(rt)?;
+    Ok(limits == after)
 }
 
-fn adjusted(answer: AdjustAnswer, refusal: u8, by: i32) -> bool {
-    match answer {
-        AdjustAnswer::AdjustedBy(a) => (refusal == 0) & (a == by),
-        AdjustAnswer::NoWindowToAdjust => refusal == 4,
-    }
+// The samples before and after a kernel's call.
+fn replay_kernel<T: PartialEq + Copy, F: FnOnce(&mut [u8]) -> Result<T, KernelRefusal>>(
+    rt: &impl Input,
+    wanted: Result<T, u8>,
+    kernel: F,
+) -> io::Result<bool>
+    requires { F.IsAlwaysCallable kernel }
+{
+    let mut samples: [u8; 16] = read_array(rt)?;
+    let after: [u8; 16] = read_array(rt)?;
+    let answer = kernel(&mut samples);
+    Ok(answered(answer, wanted) & (samples == after))
 }
 
 // A mark, the base, the refusal and the adjustment; the samples before and after.
 pub fn replay_adjust(rt: &impl Input) -> io::Result<bool> {
-    let mut b = [0u8; 10];
-    let mut seg = [0u8; 16];
-    let mut after = [0u8; 16];
-    let whole = fill(rt, &mut b)? & fill(rt, &mut seg)? & fill(rt, &mut after)?;
-    let answer = common_adjust(b[0] != 0, &mut seg, size(b[1], b[2], b[3], b[4]));
-    let by = signed32(b[6], b[7], b[8], b[9]);
-    Ok(whole & adjusted(answer, b[5], by) & (seg == after))
-}
-
-fn done(answer: KernelAnswer, refusal: u8) -> bool {
-    match answer {
-        KernelAnswer::Done(_) => refusal == 0,
-        KernelAnswer::NoWindow => refusal == 4,
-    }
+    let use_outer_taps = read_flag(rt)?;
+    let base = read_size(rt)?;
+    let wanted = recorded(read_u8(rt)?, read_i32(rt)?);
+    replay_kernel(rt, wanted, |samples| {
+        common_adjust(use_outer_taps, samples, base)
+    })
 }
 
 // The edge limit, the base and the refusal; the samples before and after.
 pub fn replay_simple(rt: &impl Input) -> io::Result<bool> {
-    let mut b = [0u8; 6];
-    let mut seg = [0u8; 16];
-    let mut after = [0u8; 16];
-    let whole = fill(rt, &mut b)? & fill(rt, &mut seg)? & fill(rt, &mut after)?;
-    let answer = simple_segment(b[0], &mut seg, size(b[1], b[2], b[3], b[4]));
-    Ok(whole & done(answer, b[5]) & (seg == after))
+    let edge_limit = read_u8(rt)?;
+    let base = read_size(rt)?;
+    let wanted = recorded(read_u8(rt)?, ());
+    replay_kernel(rt, wanted, |samples| {
+        simple_segment(edge_limit, samples, base).map(|_smoothed| ())
+    })
 }
 
 // Threshold, interior and edge limit, the base and the refusal; the samples before and after.
 pub fn replay_subblock(rt: &impl Input) -> io::Result<bool> {
-    let mut b = [0u8; 8];
-    let mut seg = [0u8; 16];
-    let mut after = [0u8; 16];
-    let whole = fill(rt, &mut b)? & fill(rt, &mut seg)? & fill(rt, &mut after)?;
-    let base = size(b[3], b[4], b[5], b[6]);
-    let answer = subblock_filter(b[0], b[1], b[2], &mut seg, base);
-    Ok(whole & done(answer, b[7]) & (seg == after))
+    let [hev_threshold, interior_limit, edge_limit]: [u8; 3] = read_array(rt)?;
+    let base = read_size(rt)?;
+    let wanted = recorded(read_u8(rt)?, ());
+    replay_kernel(rt, wanted, |samples| {
+        subblock_filter(hev_threshold, interior_limit, edge_limit, samples, base).map(
+            |_smoothed| (),
+        )
+    })
 }
 
 pub fn replay_macroblock(rt: &impl Input) -> io::Result<bool> {
-    let mut b = [0u8; 8];
-    let mut seg = [0u8; 16];
-    let mut after = [0u8; 16];
-    let whole = fill(rt, &mut b)? & fill(rt, &mut seg)? & fill(rt, &mut after)?;
-    let base = size(b[3], b[4], b[5], b[6]);
-    let answer = mb_filter(b[0], b[1], b[2], &mut seg, base);
-    Ok(whole & done(answer, b[7]) & (seg == after))
-}
-
-fn levelled(answer: LevelAnswer, refusal: u8, level: u8) -> bool {
-    match answer {
-        LevelAnswer::Level(l) => (refusal == 0) & (l == level),
-        LevelAnswer::BadEntry => refusal == 6,
-    }
+    let [hev_threshold, interior_limit, edge_limit]: [u8; 3] = read_array(rt)?;
+    let base = read_size(rt)?;
+    let wanted = recorded(read_u8(rt)?, ());
+    replay_kernel(rt, wanted, |samples| {
+        mb_filter(hev_threshold, interior_limit, edge_limit, samples, base).map(|_smoothed| ())
+    })
 }
 
 // The settings; segment, mode, refusal and level.
 pub fn replay_key_level(rt: &impl Input) -> io::Result<bool> {
-    let s = read_settings(rt)?;
-    let mut b = [0u8; 4];
-    let whole = fill(rt, &mut b)?;
-    let answer = calculate_mb_filter_level(s.config, b[0], b[1]);
-    Ok(s.whole & whole & levelled(answer, b[2], b[3]))
+    let config = read_settings(rt)?;
+    let [segment, mode, refusal, level]: [u8; 4] = read_array(rt)?;
+    let answer = calculate_mb_filter_level(config, segment, mode);
+    Ok(answered(answer, recorded(refusal, level)))
 }
 
 // The settings; segment, reference, inter mode, mode, refusal and level.
 pub fn replay_inter_level(rt: &impl Input) -> io::Result<bool> {
-    let s = read_settings(rt)?;
-    let mut b = [0u8; 6];
-    let whole = fill(rt, &mut b)?;
-    let answer = calculate_mb_filter_level_inter(s.config, b[0], b[1], b[2], b[3]);
-    Ok(s.whole & whole & levelled(answer, b[4], b[5]))
-}
-
-fn any(coefficients: &[i16; 400]) -> bool {
-    mb_has_coeffs(coefficients)
+    let config = read_settings(rt)?;
+    let [segment, reference, inter_mode, mode, refusal, level]: [u8; 6] = read_array(rt)?;
+    let answer = calculate_mb_filter_level_inter(config, segment, reference, inter_mode, mode);
+    Ok(answered(answer, recorded(refusal, level)))
 }
 
 // 400 coefficients, all 0 but the one at `at`, where there is one; and whether there are any.
 pub fn replay_coefficients(rt: &impl Input) -> io::Result<bool> {
-    let mut b = [0u8; 7];
-    let whole = fill(rt, &mut b)?;
-    let at = size(b[0], b[1], b[2], b[3]);
+    let at = read_size(rt)?;
+    let coefficient = read_i16(rt)?;
     let mut coefficients = [0i16; 400];
-    if at < 400 {
-        coefficients[at] = signed16(b[4], b[5]);
+    if at < coefficients.len() {
+        coefficients[at] = coefficient;
     }
-    Ok(whole & (any(&coefficients) == (b[6] != 0)))
-}
-
-fn rows_are(answer: FinalRowsAnswer, refusal: u8, first: usize, second: usize) -> bool {
-    match answer {
-        FinalRowsAnswer::FinalRows { luma, chroma } => {
-            (refusal == 0) & (luma == first) & (chroma == second)
-        }
-        FinalRowsAnswer::Refused(r) => refusal == pass_refusal_number(r),
-    }
+    Ok(mb_has_coeffs(&coefficients) == read_flag(rt)?)
 }
 
 pub fn replay_final_rows(rt: &impl Input) -> io::Result<bool> {
-    let p = read_place(rt)?;
-    let r = read_recorded(rt)?;
-    let answer = final_rows(p.layout, p.start);
-    Ok(p.whole & r.whole & rows_are(answer, r.refusal, r.first, r.second))
+    let place = read_place(rt)?;
+    let answer = final_rows(place.layout, place.start).map(|rows| (rows.luma, rows.chroma));
+    Ok(answered(answer, read_recorded(rt)?))
 }

@@ -1,66 +1,33 @@
-// Replays recorded sums and searches from standard input, and marks each that is answered as it was recorded.
+// Replays recorded sums and searches from standard input, and marks each that is answered as it was recorded. A record has four marks: both sums, and both searches.
 #![tactic(auto)]
 
 mod search_input;
 mod searches;
 
-use crate::searches::{replay_idle_search, replay_search};
-use recording::marks::{begin_section, end_recording, end_section, mark};
+use crate::searches::{Frames, replay_idle_search, replay_search};
+use recording::marks::{end_recording, section};
 use std::io;
-
-// One record. It has four marks: both sums, and both searches.
-fn replay(rt: &(impl Input + Print), changes: bool, of_key: bool) -> io::Result<bool> {
-    if changes {
-        replay_search(rt, of_key)
-    } else {
-        replay_idle_search(rt, of_key)
-    }
-}
-
-fn replay_many(
-    rt: &(impl Input + Print),
-    changes: bool,
-    of_key: bool,
-    count: u16,
-) -> io::Result<()> {
-    let mut left = count;
-    while left > 0 {
-        mark(rt, replay(rt, changes, of_key)?)?;
-        left -= 1;
-    }
-    Ok(())
-}
-
-fn section(rt: &(impl Input + Print), name: &[u8], changes: bool, of_key: bool) -> io::Result<()> {
-    let count = begin_section(rt, name)?;
-    replay_many(rt, changes, of_key, count)?;
-    end_section(rt)
-}
 
 fn main(rt: HostRuntime) -> io::Result<()> {
     section(
         &rt,
-        b"reconstruction_ssd, reconstruction_ssd_from, select_filter_params, select_filter_level",
-        true,
-        true,
+        "reconstruction_ssd, reconstruction_ssd_from, select_filter_params, select_filter_level",
+        || replay_search(&rt, Frames::Key),
     )?;
     section(
         &rt,
-        b"reconstruction_ssd, reconstruction_ssd_from, select_filter_params_inter, select_filter_level_inter",
-        true,
-        false,
+        "reconstruction_ssd, reconstruction_ssd_from, select_filter_params_inter, select_filter_level_inter",
+        || replay_search(&rt, Frames::Inter),
     )?;
     section(
         &rt,
-        b"reconstruction_ssd, reconstruction_ssd_from, select_filter_params, select_filter_level, nothing changes",
-        false,
-        true,
+        "reconstruction_ssd, reconstruction_ssd_from, select_filter_params, select_filter_level, nothing changes",
+        || replay_idle_search(&rt, Frames::Key),
     )?;
     section(
         &rt,
-        b"reconstruction_ssd, reconstruction_ssd_from, select_filter_params_inter, select_filter_level_inter, nothing changes",
-        false,
-        false,
+        "reconstruction_ssd, reconstruction_ssd_from, select_filter_params_inter, select_filter_level_inter, nothing changes",
+        || replay_idle_search(&rt, Frames::Inter),
     )?;
     end_recording(&rt)
 }

@@ -3,6 +3,7 @@ use mathlib.Core.Path.{◌≡◌, refl, sym, ap, ◌∙◌}
 use mathlib.Core.Bool.{Bool, true, false, cond, ◌||◌}
 use mathlib.Core.Logic.{◌≢◌, ◌⊎◌, inl, inr, ⊎_elim}
 use mathlib.Core.List.{List}
+use Rattle.std.proofs.Common.{Result, Ok, Err}
 use Prim.Native.Nat.{ℕ, zero, suc, ◌+◌, ◌*◌, ◌/◌, ◌%◌, ◌≤◌, ◌<◌}
 use native.Mathlib.Nat.{mul-le-mul_right, mul-zero, div-add-mod', suc-mul}
 use native.Mathlib.Numerals.{add-one}
@@ -16,12 +17,15 @@ use Rattle.planes.specs.Planes.{Plane, luma, chroma_u, chroma_v, Planes, Grid, s
 use Rattle.planes.specs.Layout.{planes_of}
 use Rattle.planes.specs.Reach.{InGrid}
 use Rattle.planes.proofs.Divided.{InGridDivided, grid-divided}
-use Rattle.planes.specs.GridRefusals.{zero_grid, past_grid, grid_refusal}
+use Rattle.arithmetic.specs.Outcome.{outcome, number_of}
+use Rattle.planes.specs.GridRefusals.{zero_grid, past_grid, grid_refusal, grid_refusal_number}
+use Rattle.planes.specs.declared.grid.GridRefusal.{GridRefusal}
+use Rattle.planes.specs.declared.grid.GridRefusal.TheVariants.{TooLarge, BadStrides, ShortPlane}
 use Rattle.planes.proofs.Steps.{steps-suc, steps-inv}
 use Rattle.planes.proofs.Fits.{row-column}
 use Rattle.planes.proofs.GridLaws.{by_lengths}
 use Rattle.planes.proofs.PastGrid.{row_in, past-lengths, Sound, with-grid, grid-passes, grid-stops, grid-none}
-use Rattle.scratch.specs.Copies.{copy_row, copy_rows, copy_grid, copied_grid, scratch_refusal}
+use Rattle.scratch.specs.Copies.{copy_row, copy_rows, copy_grid, copied_grid}
 
 -- ---- one more step
 
@@ -235,24 +239,35 @@ module _ (g : Grid) (p t : Planes) where
   unfolding copied_grid
   not-copied h = rw (ne_eqb (past_grid g p (past_grid g t 0)) 0 h)
 
-  pub scratch-by-lengths : scratch_refusal g (length p.y) (length p.u) (length p.v) (length t.y) (length t.u) (length t.v) ≡ past_grid g p (past_grid g t 0)
-  unfolding scratch_refusal
-  scratch-by-lengths = rw (by_lengths g p, by_lengths g t) (by (eqb (past_grid g p 0) 0) refl)
-    where
-      by : (b : Bool) → eqb (past_grid g p 0) 0 ≡ b → cond b (past_grid g t 0) (past_grid g p 0) ≡ past_grid g p (past_grid g t 0)
-      by true e = sym (grid-passes g p (past_grid g t 0) (eqb-true (past_grid g p 0) 0 e))
-      by false e = sym (grid-stops g p (past_grid g t 0) (past_grid g p 0) refl (eqb-false (past_grid g p 0) 0 e))
-
   -- what a judgement of 0 leaves
   pub both-pass : past_grid g p (past_grid g t 0) ≡ 0 → (past_grid g p 0 ≡ 0) × (past_grid g t 0 ≡ 0)
   both-pass e = grid-none g p (past_grid g t 0) e
 
 -- ---- the number of the refusal
 
-pub first-refused : (g : Grid) (y u v sy su sv n : ℕ) → n ≡ grid_refusal g y u v → (n ≡ 0 → ⊥) → n ≡ scratch_refusal g y u v sy su sv
-unfolding scratch_refusal
-first-refused g y u v sy su sv n e nz = e ∙ rw (ne_eqb (grid_refusal g y u v) 0 (λ z. nz (e ∙ z)))
+pub some-refusal : (e : GridRefusal) → grid_refusal_number e ≡ 0 → ⊥
+some-refusal TooLarge z = omega arith
+some-refusal BadStrides z = omega arith
+some-refusal ShortPlane z = omega arith
 
-pub first-passed : (g : Grid) (y u v sy su sv n m : ℕ) → n ≡ grid_refusal g y u v → n ≡ 0 → m ≡ grid_refusal g sy su sv → m ≡ scratch_refusal g y u v sy su sv
-unfolding scratch_refusal
-first-passed g y u v sy su sv n m e z f = f ∙ rw (eq-eqb (grid_refusal g y u v) 0 (sym e ∙ z))
+-- a judgement of planes by their lengths
+module _ (g : Grid) (p : Planes) (y u v : ℕ) (ey : y ≡ length p.y) (eu : u ≡ length p.u) (ev : v ≡ length p.v)
+    (r : Result Unit GridRefusal) (h : number_of (outcome grid_refusal_number r) ≡ grid_refusal g y u v) where
+  abbrev number : Result Unit GridRefusal → ℕ
+  number t = number_of (outcome grid_refusal_number t)
+
+  pub judged-number : number r ≡ past_grid g p 0
+  judged-number = h ∙ (λ i. grid_refusal g (ey i) (eu i) (ev i)) ∙ by_lengths g p
+
+  pub judged-stops : (rest : ℕ) (e : GridRefusal) (s : Result Unit GridRefusal) → r ≡ Err e → s ≡ Err e → number s ≡ past_grid g p rest
+  unfolding number_of
+  judged-stops rest e s er es =
+      ap number (es ∙ sym er) ∙ sym (grid-stops g p rest (number r) judged-number (λ z. some-refusal e (sym (ap number er) ∙ z)))
+
+  pub judged-refuses : (rest : ℕ) (e : GridRefusal) → r ≡ Err e → past_grid g p rest ≡ 0 → ⊥
+  unfolding number_of
+  judged-refuses rest e er z = some-refusal e (sym (ap number er) ∙ judged-stops rest e r er er ∙ z)
+
+  pub judged-passes : r ≡ Ok tt → past_grid g p 0 ≡ 0
+  unfolding number_of
+  judged-passes er = sym judged-number ∙ ap number er

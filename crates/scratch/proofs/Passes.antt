@@ -1,7 +1,6 @@
--- Either pass by its mark; and a pass over a copy, which is the copy of the pass. Assumes nothing.
+-- A pass over a copy is the copy of the pass. Assumes nothing.
 use mathlib.Core.Path.{◌≡◌, refl, sym, ◌∙◌}
 use mathlib.Core.Bool.{Bool, true, false, cond}
-use mathlib.Core.List.{List}
 use Prim.Native.Nat.{ℕ, ◌-◌, ◌≤◌, min}
 use native.Mathlib.Omega.{arith}
 use lib.Dec.{eqb, ltb}
@@ -12,39 +11,13 @@ use Rattle.planes.specs.GridRefusals.{zero_grid, past_grid}
 use Rattle.planes.specs.Macroblock.{filter_macroblock}
 use Rattle.planes.specs.Planes.{Plane, Planes, Grid, plane, macroblocks}
 use Rattle.planes.specs.Steps.{steps}
-use Rattle.planes.specs.declared.layout.PlaneLayout.{PlaneLayout}
 use Rattle.planes.proofs.Alike.{length-steps}
 use Rattle.planes.proofs.GridLaws.{none}
 use Rattle.planes.proofs.PastGrid.{Sound, grid-sound, with-grid, past_is, grid-passes}
-use Rattle.calls.specs.Answers.{Passed}
-use Rattle.calls.specs.Pass.{Pass, key_pass, inter_pass, Call, refusal, step, count, planes_after}
-use Rattle.calls.specs.PassCalls.{key_call, inter_call, key_lists, inter_lists}
-use Rattle.calls.specs.declared.answers.PassAnswer.{PassAnswer}
+use Rattle.calls.specs.Pass.{Pass, Call, refusal, step, count, planes_after}
 use Rattle.scratch.specs.Copies.{copy_grid}
-use Rattle.scratch.specs.EitherPass.{pass_of, pass_call}
 use Rattle.scratch.proofs.CopyLaws.{copy-past, no-grid}
 use Rattle.scratch.proofs.SameGrid.{steps-copy}
-
--- ---- either pass
-
-module _ (inter : Bool) (layout : PlaneLayout) (config : FrameFilterConfig) (m s f r i : List ℕ) (p : Planes) (start allowance : ℕ) (x : PassAnswer) (after : Planes) where
-  pub by-inter : inter ≡ true
-      → Passed inter_pass (inter_call p layout (inter_lists m s f r i) config start allowance) x after
-      → Passed (pass_of inter) (pass_call inter layout config m s f r i p start allowance) x after
-  by-inter e h = go inter e
-    where
-      go : (b : Bool) → b ≡ true → Passed (pass_of b) (pass_call b layout config m s f r i p start allowance) x after
-      go true e = h
-      go false e = let z : ◌≡◌ {A = ℕ} 0 1 = cc in absurd (omega arith)
-
-  pub by_key : inter ≡ false
-      → Passed key_pass (key_call p layout (key_lists m s f) config start allowance) x after
-      → Passed (pass_of inter) (pass_call inter layout config m s f r i p start allowance) x after
-  by_key e h = go inter e
-    where
-      go : (b : Bool) → b ≡ false → Passed (pass_of b) (pass_call b layout config m s f r i p start allowance) x after
-      go true e = let z : ◌≡◌ {A = ℕ} 0 1 = cc in absurd (omega arith)
-      go false e = h
 
 -- ---- a pass over a copy
 
@@ -118,12 +91,3 @@ module _ (W : Pass) (g : Grid) (settings : FrameFilterConfig) (carried : W.Carri
         either : (b : Bool) (x : Planes) → length (plane q x) ≡ length (plane q p) → length (plane q (cond b x p)) ≡ length (plane q p)
         either true x e = e
         either false x e = refl
-
-  -- a pass with allowance 0 changes nothing
-  pub none_allowed : (p : Planes) → planes_after W (call p 0) ≡ p
-  unfolding planes_after count steps
-  none_allowed p = let e : min 0 (macroblocks g - start) ≡ 0 = omega arith in rw e (by (eqb (refusal W (call p 0)) 0))
-    where
-      by : (b : Bool) → cond b p p ≡ p
-      by true = refl
-      by false = refl

@@ -1,6 +1,6 @@
--- The grid's samples of one set of planes, put into another, and the refusals that both can cause.
+-- The grid's samples of one set of planes, put into another.
 use Rattle.std.specs.Prelude.{cond, List, ℕ, ◌+◌, ◌*◌, eqb, get_or, set}
-use Rattle.planes.specs.GridRefusals.{past_grid, grid_refusal}
+use Rattle.planes.specs.GridRefusals.{past_grid}
 use Rattle.planes.specs.Planes.{Planes, Grid}
 use Rattle.planes.specs.Steps.{steps}
 
@@ -23,7 +23,3 @@ copy_grid g p t = record {
 -- the same where neither is refused by 1, 2 or 3; else nothing is copied
 unfoldable pub copied_grid : Grid → (source into : Planes) → Planes
 copied_grid g p t = cond (eqb (past_grid g p (past_grid g t 0)) 0) (copy_grid g p t) t
-
--- 1, 2 or 3 of planes of these lengths, then of scratch planes of these, or 0: `proofs/CopyLaws.antt` has that it is `past_grid g p (past_grid g t 0)` of planes p and t of these lengths
-unfoldable pub scratch_refusal : Grid → (y u v scratch_y scratch_u scratch_v : ℕ) → ℕ
-scratch_refusal g y u v sy su sv = cond (eqb (grid_refusal g y u v) 0) (grid_refusal g sy su sv) (grid_refusal g y u v)

@@ -1,5 +1,4 @@
-// What a call does with scratch planes that it borrows: it judges them, copies the grid into them, and runs either pass over them.
+// Scratch planes that a call borrows: it judges them, and copies the grid of the reconstruction into them.
 #![tactic(auto)]
 
 pub mod copies;
-pub mod either;

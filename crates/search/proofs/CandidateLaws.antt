@@ -1,17 +1,20 @@
 -- A candidate that is made in the scratch planes. Assumes nothing.
-use mathlib.Core.Path.{◌≡◌, refl, sym, ap₂, ◌∙◌}
+use mathlib.Core.Path.{◌≡◌, refl, sym, ap, ap₂, ◌∙◌}
 use mathlib.Core.Bool.{Bool, true, false, cond}
 use Prim.Native.Nat.{ℕ, ◌≤◌}
 use lib.Dec.{eqb}
 use lib.ListN.{length}
 use borrow.Author.Tests.{eq-eqb, ne_eqb}
 use Rattle.levels.specs.declared.config.FrameFilterConfig.{FrameFilterConfig}
-use Rattle.planes.specs.GridRefusals.{past_grid}
+use Rattle.std.specs.Prelude.{Result, Ok, Err}
+use Rattle.arithmetic.specs.Outcome.{outcome, number_of}
+use Rattle.planes.specs.GridRefusals.{past_grid, grid_refusal_number}
+use Rattle.planes.specs.declared.grid.GridRefusal.{GridRefusal}
 use Rattle.planes.specs.Planes.{Plane, Planes, Grid, plane, macroblocks}
 use Rattle.calls.specs.Pass.{Pass, planes_after}
 use Rattle.scratch.specs.Copies.{copy_grid, copied_grid}
 use Rattle.planes.proofs.PastGrid.{past-lengths}
-use Rattle.scratch.proofs.CopyLaws.{copied, not-copied}
+use Rattle.scratch.proofs.CopyLaws.{copied, not-copied, some-refusal}
 use Rattle.scratch.proofs.Passes.{all-allowed, pass-copy, pass-length}
 use Rattle.search.specs.Candidates.{Candidate}
 use Rattle.search.specs.Search.{settings_at, pass_over, candidate_planes}
@@ -30,11 +33,26 @@ pub candidate-past : (W : Pass) (g : Grid) (settings : FrameFilterConfig) (carri
     → past_grid g (candidate_planes W g settings carried p c) rest ≡ past_grid g p rest
 candidate-past W g settings carried p c rest = past-lengths g (candidate_planes W g settings carried p c) p rest (candidate-length W g settings carried p c)
 
+-- what a copy answers
+module _ (r : Result Unit GridRefusal) (n : ℕ) (e : number_of (outcome grid_refusal_number r) ≡ n) where
+  pub copy_refused : ((u : Unit) → r ≡ Ok u → ⊥) → n ≡ 0 → ⊥
+  unfolding number_of
+  copy_refused h z = by r refl
+    where
+      by : (s : Result Unit GridRefusal) → r ≡ s → ⊥
+      by (Ok u) q = h u q
+      by (Err w) q = some-refusal w (sym (ap (λ (s : Result Unit GridRefusal). number_of (outcome grid_refusal_number s)) q) ∙ e ∙ z)
+
+  pub copy_done : (u : Unit) → r ≡ Ok u → n ≡ 0
+  unfolding number_of
+  copy_done u q = sym e ∙ ap (λ (s : Result Unit GridRefusal). number_of (outcome grid_refusal_number s)) q
+
 module _ (W : Pass) (g : Grid) (settings : FrameFilterConfig) (carried : W.Carried) (p t : Planes) (c : Candidate) where
   -- where the reconstruction or the scratch planes are refused, no candidate is made
-  pub candidate-refused : (past_grid g p (past_grid g t 0) ≡ 0 → ⊥) → t ≡ copied_grid g (candidate_planes W g settings carried p c) t
-  candidate-refused h =
-      not-copied g (candidate_planes W g settings carried p c) t
+  pub candidate-none : (past_grid g p (past_grid g t 0) ≡ 0 → ⊥) → (after : Planes) → after ≡ copied_grid g p t → after ≡ copied_grid g (candidate_planes W g settings carried p c) t
+  candidate-none h after e =
+      e ∙ sym (not-copied g p t h)
+      ∙ not-copied g (candidate_planes W g settings carried p c) t
       (λ z. h (sym (candidate-past W g settings carried p c (past_grid g t 0)) ∙ z))
 
   module _ (ep : past_grid g p 0 ≡ 0) (et : past_grid g t 0 ≡ 0) where

@@ -9,24 +9,23 @@ use Rattle.arithmetic.specs.Outcome.{Outcome, gives, refuses}
 use Rattle.planes.specs.Steps.{steps}
 use Rattle.planes.specs.Planes.{Planes}
 use Rattle.calls.specs.Pass.{Pass}
-use Rattle.sums.specs.Sums.{error_sum, past_source, sum_too_large, sum_answer}
+use Rattle.sums.specs.Sums.{error_sum, past_source, sum_too_large}
 use Rattle.planes.specs.GridRefusals.{past_grid}
 use Rattle.sums.specs.Bytes.{BytePlanes}
 use Rattle.scratch.specs.Copies.{copy_grid, copied_grid}
 use Rattle.search.specs.Candidates.{coarse}
-use Rattle.search.specs.Search.{SearchCall, candidate_planes, planes_of_candidate, score, base_sharpness, search, choice, any_too_large, search_refusal, unfiltered_answer, search_answer, scratch_after, Unfiltered, Searched}
+use Rattle.search.specs.Search.{SearchCall, candidate_planes, planes_of_candidate, score, base_sharpness, search, choice, any_too_large, search_refusal, unfiltered_answer, search_answer, scratch_after, Searched}
 use Rattle.sums.specs.Answers.{search_refusal_number}
 use Rattle.sums.specs.declared.answers.SearchRefusal.{SearchRefusal}
 use Rattle.search.specs.Answers.{params_outcome}
 use Rattle.scratch.specs.Private.Alike.{Alike}
 use Rattle.search.specs.Private.Ready.{Ready}
 use Rattle.search.specs.Private.SearchCode.{after_trial, start_at, Ended, chosen_by}
-use Rattle.search.specs.declared.answers.ParamsAnswer.TheVariants.{Chosen, Refused}
+use Rattle.std.specs.Prelude.{Ok, Err}
 use Rattle.search.specs.declared.trials.Best.{Best}
 use Rattle.search.proofs.TrialLaws.{all-trials, stand}
 use Rattle.search.proofs.Scores.{candidate-made}
 use Rattle.search.proofs.PassBytes.{score-fits, none-too-large}
-use Rattle.search.proofs.Judgements.{accepted-ready, accepted-sum}
 
 module _ (W : Pass) (a : SearchCall W) where
   -- level 0 scores the unfiltered planes
@@ -62,13 +61,6 @@ module _ (W : Pass) (a : SearchCall W) where
       ap (λ (n : ℕ). leb (2 ^ 64) n) (sym (zero-score 0)) ∙ lt-leb (2 ^ 64) (score W a (record { level = 0; sharpness = 0 })) (score-fits W a bp bs e f (record { level = 0; sharpness = 0 })),
     )
 
-    -- a search that is not refused starts from the unfiltered sum
-    pub starts : search_refusal W a ≡ 0 → (o : Outcome ℕ) (after : Planes) → o ≡ sum_answer a.grid a.reconstruction a.source → after ≡ a.scratch → Unfiltered W a o after
-    unfolding unfiltered_answer
-    starts acc o after e t =
-        let ready = accepted-ready W a acc in
-        record { answer = rw (eq-eqb (search_refusal W a) 0 acc) (e ∙ accepted-sum W a ready (small ready.planes ready.source).1); scratch = t }
-
   -- an unfiltered sum: the search is not refused
   pub started : (n : ℕ) → gives n ≡ unfiltered_answer W a → (search_refusal W a ≡ 0) × (n ≡ error_sum a.grid a.reconstruction a.source)
   unfolding unfiltered_answer
@@ -90,26 +82,20 @@ module _ (W : Pass) (a : SearchCall W) where
       by false h e = (h refl, cc)
 
   -- a search that ended
-  pub chosen : search_refusal W a ≡ 0 → (r : Best) (after : Planes) → Ended W a r after → Searched W a (params_outcome (Chosen r.«level» r.«sharpness» r.«count»)) after
-  unfolding search_answer scratch_after params_outcome
+  pub chosen : search_refusal W a ≡ 0 → (r : Best) (after : Planes) → Ended W a r after
+      → Searched W a (params_outcome (Ok (record { «level» = r.«level»; «sharpness» = r.«sharpness»; «count» = r.«count» }))) after
+  unfolding search_answer scratch_after
   chosen acc r after e =
       let n : eqb (search_refusal W a) 0 ≡ true = eq-eqb (search_refusal W a) 0 acc in
       record { answer = rw n (ap gives e.best); scratch = rw n e.scratch }
 
 -- a search that is refused
-pub refused : (W : Pass) (a : SearchCall W) (w : SearchRefusal) (after : Planes) → Unfiltered W a (refuses (search_refusal_number w)) after → Searched W a (params_outcome (Refused w)) after
-unfolding search_answer scratch_after params_outcome
-refused W a w after h =
-    let (never, e) = not-started W a (search_refusal_number w) h.answer in
+pub refused : (W : Pass) (a : SearchCall W) (w : SearchRefusal) (after : Planes) → refuses (search_refusal_number w) ≡ unfiltered_answer W a → after ≡ a.scratch → Searched W a (params_outcome (Err w)) after
+unfolding search_answer scratch_after
+refused W a w after h k =
+    let (never, e) = not-started W a (search_refusal_number w) h in
     let n : eqb (search_refusal W a) 0 ≡ false = ne_eqb (search_refusal W a) 0 never in
-    record { answer = rw n (ap refuses e); scratch = rw n h.scratch }
-
--- a call whose scratch planes are others, that are the same
-pub other-scratch : (W : Pass) (a b : SearchCall W) (r : Best) (after : Planes) → b ≡ a → Ended W b r after → Ended W a r after
-other-scratch W a b r after e h = subst (λ (x : SearchCall W). Ended W x r after) e h
-
-pub ready-other : (W : Pass) (a b : SearchCall W) → a ≡ b → Ready W a → Ready W b
-ready-other W a b e h = subst (λ (x : SearchCall W). Ready W x) e h
+    record { answer = rw n (ap refuses e); scratch = rw n k }
 
 -- a search that refuses leaves the scratch planes as they were lent
 pub refused-keeps : (W : Pass) (a : SearchCall W) → (search_refusal W a ≡ 0 → ⊥) → scratch_after W a ≡ a.scratch

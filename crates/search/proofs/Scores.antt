@@ -1,13 +1,11 @@
 -- The score of a candidate that was made in the scratch planes.
-use mathlib.Core.Path.{◌≡◌, refl, sym, ap, ◌∙◌}
+use mathlib.Core.Path.{◌≡◌, refl, sym, ap, subst, ◌∙◌}
 use mathlib.Core.List.{List, [], ◌∷◌}
-use Prim.Native.Nat.{ℕ}
+use Prim.Native.Nat.{ℕ, ◌<◌, ◌^◌}
 use native.Mathlib.Omega.{arith}
 use lib.ListN.{get_or}
 use mir.Syntax.{w8}
 use mir.Val.{Fits}
-use denote.Enum.Declared.{tag_of}
-use types.Run.{OneOf}
 use Rattle.arithmetic.specs.Outcome.{gives}
 use Rattle.planes.specs.Planes.{luma, chroma_u, chroma_v, Planes}
 use Rattle.planes.specs.Layout.{planes_of}
@@ -20,12 +18,10 @@ use Rattle.search.specs.Candidates.{Candidate}
 use Rattle.search.specs.Search.{SearchCall, planes_of_candidate, score}
 use Rattle.search.specs.Private.Ready.{Ready}
 use Rattle.sums.specs.Answers.{sum_outcome}
-use Rattle.sums.specs.declared.answers.SumAnswer.{SumAnswer}
-use Rattle.sums.specs.declared.answers.SumAnswer.TheVariants.{Sum, Refused}
-use Rattle.sums.specs.contracts.answers.SumAnswer.{the_type}
-use Rattle.sums.proofs.SumLaws.{not-sum}
+use Rattle.sums.specs.declared.answers.SearchRefusal.{SearchRefusal}
+use Rattle.std.specs.Prelude.{Result, Ok, Err}
 use Rattle.sums.proofs.SumRefusals.{ends-fit}
-use Rattle.sums.proofs.SumBounds.{sum_fits}
+use Rattle.search.proofs.PassBytes.{score-fits}
 use Rattle.search.proofs.CandidateLaws.{candidate-copied}
 use Rattle.search.proofs.CopiedSums.{sum-copy}
 use Rattle.scratch.proofs.CopyLaws.{copy-past}
@@ -37,13 +33,10 @@ byte-planes y u v hy hu hv chroma_u = λ i. (hu i).fits
 byte-planes y u v hy hu hv chroma_v = λ i. (hv i).fits
 
 -- an answer that gives a number is a sum
-pub gives-sum : (r : SumAnswer) (n : ℕ) → sum_outcome r ≡ gives n → ((m : ℕ) → r ≡ Sum m → ⊥) → ⊥
-unfolding sum_outcome
-gives-sum (Sum m) n e none = none m refl
-gives-sum (Refused why) n e none = let z : ◌≡◌ {A = ℕ} 0 1 = cc in omega arith
+pub gives-sum : (n : ℕ) (why : SearchRefusal) → sum_outcome (Err why) ≡ gives n → ⊥
+gives-sum n why e = let z : ◌≡◌ {A = ℕ} 0 1 = cc in omega arith
 
-pub sum-given : (m n : ℕ) → sum_outcome (Sum m) ≡ gives n → m ≡ n
-unfolding sum_outcome
+pub sum-given : (m n : ℕ) → sum_outcome (Ok m) ≡ gives n → m ≡ n
 sum-given m n e = cc
 
 pub candidate-made : (W : Pass) (a : SearchCall W) (c : Candidate) (t after : Planes) → past_grid a.grid a.reconstruction 0 ≡ 0 → past_grid a.grid t 0 ≡ 0
@@ -57,16 +50,18 @@ module _ (W : Pass) (a : SearchCall W) (ready : Ready W a) (c : Candidate) (afte
   pub made : after ≡ copy_grid a.grid (planes_of_candidate W a c) a.scratch
   made = candidate-made W a c a.scratch after ready.planes ready.scratch e
 
-  module _ (bytes : BytePlanes after) (source : BytePlanes a.source.samples) (r : SumAnswer) (h : sum_outcome r ≡ sum_answer a.grid after a.source) where
+  module _ (r : Result ℕ SearchRefusal) (h : sum_outcome r ≡ sum_answer a.grid after a.source) where
     given : sum_outcome r ≡ gives (score W a c)
     unfolding score
     given =
         let past : past_grid a.grid after 0 ≡ 0 = ap (λ (z : Planes). past_grid a.grid z 0) made ∙ copy-past a.grid (planes_of_candidate W a c) a.scratch ∙ ready.scratch in
-        h ∙ sym (ends-fit a.grid after a.source past ready.source (sum_fits a.grid after a.source bytes source past ready.source))
-        ∙ ap gives (ap (λ (z : Planes). error_sum a.grid z a.source) made ∙ sum-copy a.grid (planes_of_candidate W a c) a.scratch a.source ready.scratch ready.source)
+        let sum : error_sum a.grid after a.source ≡ score W a c =
+        ap (λ (z : Planes). error_sum a.grid z a.source) made ∙ sum-copy a.grid (planes_of_candidate W a c) a.scratch a.source ready.scratch ready.source in
+        h ∙ sym (ends-fit a.grid after a.source past ready.source (subst (λ (n : ℕ). n < 2 ^ 64) (sym sum) (score-fits W a ready.bytes ready.source_bytes ready.planes ready.source c)))
+        ∙ ap gives sum
 
-    pub scored-sum : (m : ℕ) → r ≡ Sum m → m ≡ score W a c
+    pub scored-sum : (m : ℕ) → r ≡ Ok m → m ≡ score W a c
     scored-sum m q = sum-given m (score W a c) (ap sum_outcome (sym q) ∙ given)
 
-    pub scored-always : OneOf (1 ∷ []) (tag_of the_type r) → ⊥
-    scored-always k = gives-sum r (score W a c) given (not-sum r k)
+    pub scored-always : (why : SearchRefusal) → r ≡ Err why → ⊥
+    scored-always why q = gives-sum (score W a c) why (ap sum_outcome (sym q) ∙ given)

@@ -10,19 +10,20 @@ use borrow.Author.Tests.{lt-ltb, le-ltb}
 use Rattle.planes.specs.Steps.{steps}
 use Rattle.planes.proofs.Steps.{steps-add}
 use Rattle.search.specs.Candidates.{Candidate, Standing, fold, keep, upward, coarse_levels, near, above_zero, consider, at_base, unfiltered, coarse, other_level, refined, other_sharpness, searched}
-use Rattle.search.specs.Private.SearchCode.{coarse_at, trial_of, taken, with_winner, tried, after_trial, start_at}
+use Rattle.search.specs.Private.SearchCode.{coarse_at, near_trial, sharpness_trial, trial_of, taken, with_winner, tried, after_trial, start_at}
 use Rattle.scratch.proofs.CopyLaws.{steps_next}
 use Rattle.search.specs.declared.trials.Best.{Best}
 use Rattle.search.specs.declared.trials.Trial.{Trial}
+use Rattle.std.specs.Prelude.{Option, Some, None}
 
-module _ (score : Candidate → ℕ) (t : Trial) (f : Best) where
-  pub tried-skip : t.«skip» ≡ true → f ≡ tried score t f
+module _ (score : Candidate → ℕ) (f : Best) where
+  pub tried-skip : (t : Option Trial) → t ≡ None → f ≡ tried score t f
   unfolding tried
-  tried-skip e = rw e
+  tried-skip t e = rw e refl
 
-  pub tried-take : (r : Best) (n : ℕ) → t.«skip» ≡ false → n ≡ score (record { level = t.«level»; sharpness = t.«sharpness» }) → r ≡ taken f t.«level» t.«sharpness» n → r ≡ tried score t f
+  pub tried-take : (t : Option Trial) (x : Trial) (r : Best) (n : ℕ) → t ≡ Some x → n ≡ score (record { level = x.«level»; sharpness = x.«sharpness» }) → r ≡ taken f x.«level» x.«sharpness» n → r ≡ tried score t f
   unfolding tried
-  tried-take r n e s h = rw (e, ← s) h
+  tried-take t x r n e s h = rw (e, ← s) h
 
 winner-is : (i : ℕ) (f : Best) → ltb i 16 ≡ true → with_winner i f ≡ record { «level» = f.«level»; «sharpness» = f.«sharpness»; «sum» = f.«sum»; «count» = f.«count»; «winner» = f.«level» }
 unfolding with_winner
@@ -39,14 +40,11 @@ module _ (score : Candidate → ℕ) (base : ℕ) where
   unfolding steps
   trials-none s = refl
 
-  pub trials-more : (i : ℕ) (s f next r : Best) (t : Trial) (other : Candidate → ℕ) → other ≡ score → f ≡ steps (after_trial score base) 0 i s → t ≡ trial_of base i f → next ≡ tried other t f → r ≡ with_winner i next
+  pub trials-more : (i : ℕ) (s f next r : Best) (t : Option Trial) (other : Candidate → ℕ) → other ≡ score → f ≡ steps (after_trial score base) 0 i s → t ≡ trial_of base i f → next ≡ tried other t f → r ≡ with_winner i next
       → r ≡ steps (after_trial score base) 0 (i + 1) s
   unfolding after_trial
   trials-more i s f next r t other es ef et en er =
       er ∙ ap (with_winner i) (en ∙ (λ k. tried (es k) (et k) f)) ∙ ap (after_trial score base i) ef ∙ sym (steps_next (after_trial score base) i s)
-
-  pub trials-end : (i : ℕ) (s f : Best) → f ≡ steps (after_trial score base) 0 i s → i ≡ 88 → f ≡ steps (after_trial score base) 0 88 s
-  trials-end i s f e h = e ∙ ap (λ (k : ℕ). steps (after_trial score base) 0 k s) h
 
   taken-count : (f : Best) (l k n : ℕ) → (taken f l k n).«count» ≤ f.«count» + 1
   unfolding taken
@@ -60,13 +58,10 @@ module _ (score : Candidate → ℕ) (base : ℕ) where
       by false true = omega arith
       by false false = omega arith
 
-  tried-count : (t : Trial) (f : Best) → (tried score t f).«count» ≤ f.«count» + 1
+  tried-count : (t : Option Trial) (f : Best) → (tried score t f).«count» ≤ f.«count» + 1
   unfolding tried
-  tried-count t f = by t.«skip»
-    where
-      by : (b : Bool) → (cond {A = Best} b f (taken f t.«level» t.«sharpness» (score (record { level = t.«level»; sharpness = t.«sharpness» })))).«count» ≤ f.«count» + 1
-      by true = omega arith
-      by false = taken-count f t.«level» t.«sharpness» (score (record { level = t.«level»; sharpness = t.«sharpness» }))
+  tried-count None f = omega arith
+  tried-count (Some t) f = taken-count f t.«level» t.«sharpness» (score (record { level = t.«level»; sharpness = t.«sharpness» }))
 
   winner-count : (i : ℕ) (f : Best) → (with_winner i f).«count» ≡ f.«count»
   unfolding with_winner
@@ -76,7 +71,7 @@ module _ (score : Candidate → ℕ) (base : ℕ) where
       by true = refl
       by false = refl
 
-  pub count-more : (i : ℕ) (f next r : Best) (t : Trial) (other : Candidate → ℕ) → other ≡ score → f.«count» ≤ i → next ≡ tried other t f → r ≡ with_winner i next → r.«count» ≤ i + 1
+  pub count-more : (i : ℕ) (f next r : Best) (t : Option Trial) (other : Candidate → ℕ) → other ≡ score → f.«count» ≤ i → next ≡ tried other t f → r ≡ with_winner i next → r.«count» ≤ i + 1
   count-more i f next r t other es h en er =
       omega (arith, ap (λ (z : Best). z.«count») er ∙ winner-count i next, ap (λ (z : Best). z.«count») (en ∙ (λ k. tried (es k) t f)), tried-count t f)
 
@@ -108,15 +103,15 @@ module _ (score : Candidate → ℕ) (base : ℕ) where
   abbrev near_level : (winner : ℕ) → Standing → (level : ℕ) → Standing
   near_level w s l = cond (near w l) (other_level score base s l) s
 
-  near-trial : (w l : ℕ) (s : Standing) → l < 64 → after_trial score base (16 + l) (stand w s) ≡ stand w (near_level w s l)
-  unfolding after_trial trial_of tried other_level
-  near-trial w l s h =
+  near-turn : (w l : ℕ) (s : Standing) → l < 64 → after_trial score base (16 + l) (stand w s) ≡ stand w (near_level w s l)
+  unfolding after_trial trial_of near_trial tried other_level
+  near-turn w l s h =
       let e : ltb (16 + l) 16 ≡ false = le-ltb (16 + l) 16 (omega arith) in
       let f : ltb (16 + l) 80 ≡ true = lt-ltb (16 + l) 80 (omega arith) in
       let d : 16 + l - 16 ≡ l = omega arith in
       rw (e, f, d) (winner-not (16 + l) _ e ∙ by (near w l) (eqb l s.best.level))
     where
-      by : (a b : Bool) → cond (not a || b) (stand w s) (taken (stand w s) l base (score (record { level = l; sharpness = base })))
+      by : (a b : Bool) → tried score (cond (not a || b) None (Some (record { «level» = l; «sharpness» = base }))) (stand w s)
           ≡ stand w (cond a (cond b s (consider score base s (at_base score base l))) s)
       by true true = refl
       by true false = taken_is w s (at_base score base l)
@@ -127,14 +122,14 @@ module _ (score : Candidate → ℕ) (base : ℕ) where
   any_sharpness s k = cond (eqb s.best.level 0) s (other_sharpness score base s k)
 
   sharp-trial : (w k : ℕ) (s : Standing) → k < 8 → after_trial score base (80 + k) (stand w s) ≡ stand w (any_sharpness s k)
-  unfolding after_trial trial_of tried other_sharpness
+  unfolding after_trial trial_of sharpness_trial tried other_sharpness
   sharp-trial w k s h =
       let e : ltb (80 + k) 16 ≡ false = le-ltb (80 + k) 16 (omega arith) in
       let f : ltb (80 + k) 80 ≡ false = le-ltb (80 + k) 80 (omega arith) in
       let d : 80 + k - 80 ≡ k = omega arith in
       rw (e, f, d) (winner-not (80 + k) _ e ∙ by (eqb s.best.level 0) (eqb k base))
     where
-      by : (a b : Bool) → cond (a || b) (stand w s) (taken (stand w s) s.best.level k (score (record { level = s.best.level; sharpness = k })))
+      by : (a b : Bool) → tried score (cond (a || b) None (Some (record { «level» = s.best.level; «sharpness» = k }))) (stand w s)
           ≡ stand w (cond a s (cond b s (consider score base s (record { level = s.best.level; sharpness = k }))))
       by true b = refl
       by false true = refl
@@ -205,7 +200,7 @@ module _ (score : Candidate → ℕ) (base : ℕ) where
       steps-add F 0 16 72 (start_at base (score (at_base score base 0)))
       ∙ ap (steps F 16 72) first
       ∙ steps-add F 16 64 8 (stand w s₁)
-      ∙ ap (steps F 80 8) (run F (stand w) (near_level w) 16 0 64 (λ k s h. near-trial w k s (omega arith)) s₁ ∙ ap (stand w) (kept w (upward 0 64) s₁))
+      ∙ ap (steps F 80 8) (run F (stand w) (near_level w) 16 0 64 (λ k s h. near-turn w k s (omega arith)) s₁ ∙ ap (stand w) (kept w (upward 0 64) s₁))
       ∙ run F (stand w) any_sharpness 80 0 8 (λ k s h. sharp-trial w k s (omega arith)) (refined score base)
       ∙ ap (stand w) (swept (upward 0 8) (refined score base))
     where

@@ -7,15 +7,15 @@ use Rattle.planes.specs.Planes.{Planes, Grid, macroblocks}
 use Rattle.planes.specs.GridRefusals.{zero_grid, past_grid}
 use Rattle.calls.specs.Entries.{KeyLists, InterLists, KeyCarried, InterCarried}
 use Rattle.planes.specs.Layout.{grid_of}
+use Rattle.planes.specs.Pictures.{planes_in}
 use Rattle.calls.specs.Pass.{Pass, key_pass, inter_pass, planes_after}
 use Rattle.planes.specs.declared.layout.PlaneLayout.{PlaneLayout}
 use Rattle.sums.specs.Source.{Source}
 use Rattle.sums.specs.Sums.{error_sum, past_source, sum_too_large}
-use Rattle.sums.specs.Source.{source_of}
+use Rattle.sums.specs.SourceRecord.{source_in}
 use Rattle.scratch.specs.Copies.{copy_grid}
-use Rattle.scratch.specs.EitherPass.{pass_of, carried_of}
 use Rattle.search.specs.Candidates.{Candidate, Standing, above_zero, searched}
-use Rattle.search.specs.declared.candidates.Setup.{Setup}
+use Rattle.search.specs.declared.input.SearchInput.{SearchInput}
 
 -- the arguments of one call
 pub record SearchCall (W : Pass) : Type 0 where
@@ -33,16 +33,10 @@ key_search layout settings l p t s = record { grid = grid_of layout; settings = 
 abbrev pub inter_search : PlaneLayout → FrameFilterConfig → InterLists → (reconstruction scratch : Planes) → Source → SearchCall inter_pass
 inter_search layout settings l p t s = record { grid = grid_of layout; settings = settings; carried = InterCarried.byte_lists l; reconstruction = p; scratch = t; source = s }
 
--- the call that a setup and slices make, of the pass that the setup's mark names
-abbrev pub setup_call : (o : Setup) (reconstruction scratch : Planes) (modes segments flags references inter_modes : List ℕ) (y u v : List ℕ) → SearchCall (pass_of o.«inter»)
-setup_call o p t m s f r i y u v = record {
-  grid = grid_of o.«layout»;
-  settings = o.«config»;
-  carried = carried_of o.«inter» m s f r i;
-  reconstruction = p;
-  scratch = t;
-  source = source_of o.«width» o.«height» y u v o.y_stride o.uv_stride;
-}
+-- the same of either pass, of the record that a search is lent
+abbrev pub search_of : (W : Pass) → W.Carried → SearchInput → (scratch : Planes) → SearchCall W
+search_of W carried a t =
+    record { grid = grid_of a.«layout»; settings = a.«config»; carried = carried; reconstruction = planes_in a.«picture»; scratch = t; source = source_in a.«source» }
 
 -- the settings with a candidate's level and sharpness
 unfoldable pub settings_at : FrameFilterConfig → Candidate → FrameFilterConfig
@@ -94,9 +88,9 @@ any_too_large score [] = false
 any_too_large score (c ∷ cs) = sum_too_large (score c) || any_too_large score cs
 
 -- 6 if there is a grid and lengths are right, then what else there is to refuse
-unfoldable pub past_entries : (W : Pass) → SearchCall W → (rest : ℕ) → ℕ
-past_entries W a rest =
-    cond (zero_grid a.grid || W.wrong_length a.carried (macroblocks a.grid)) rest (cond (W.bad_entry a.carried) 6 rest)
+unfoldable pub past_entries : (W : Pass) → Grid → W.Carried → (rest : ℕ) → ℕ
+past_entries W g carried rest =
+    cond (zero_grid g || W.wrong_length carried (macroblocks g)) rest (cond (W.bad_entry carried) 6 rest)
 
 -- the number of the refusal, or 0: 1, 2, 3 of planes and of scratch planes, 8, 9, 6, 10
 unfoldable pub search_refusal : (W : Pass) → SearchCall W → ℕ
@@ -104,7 +98,7 @@ search_refusal W a =
     past_grid a.grid a.reconstruction
     (past_grid a.grid a.scratch
     (past_source a.grid a.source
-    (past_entries W a
+    (past_entries W a.grid a.carried
     (cond (any_too_large (score W a) (search W a).scored) 10 0))))
 
 -- the unfiltered sum, or the number of the search's refusal
@@ -140,11 +134,6 @@ level_only (gives c) = gives (record { level = c.level; count = c.count })
 level_only (refuses n) = refuses n
 
 -- ---- what is promised of an answer and of the scratch planes after it
-
--- the unfiltered sum, or the refusal: the scratch planes stay
-pub record Unfiltered (W : Pass) (a : SearchCall W) (r : Outcome ℕ) (after : Planes) : Type 0 where
-  pub answer : r ≡ unfiltered_answer W a
-  pub scratch : after ≡ a.scratch
 
 -- a search
 pub record Searched (W : Pass) (a : SearchCall W) (r : Outcome Choice) (after : Planes) : Type 0 where

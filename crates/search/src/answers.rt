@@ -1,20 +1,16 @@
-// What the searches answer. `specs/Answers.antt` gives each case its number in document 01 and its values.
-use sums::answers::SearchRefusal;
+// What the searches choose. `specs/Answers.antt` gives their values in document 01.
 
-// The chosen level and sharpness, and the number of candidates scored at a level above 0; or a refusal.
-#[derive(Clone, Copy)]
-pub enum ParamsAnswer {
-    Chosen {
-        level: u8,
-        sharpness: u8,
-        count: usize,
-    },
-    Refused(SearchRefusal),
+// The level and sharpness, and the number of candidates scored at a level above 0.
+#[derive(Clone, Copy, Debug, PartialEq, Eq)]
+pub struct FilterParams {
+    pub level: u8,
+    pub sharpness: u8,
+    pub count: usize,
 }
 
 // The same without the sharpness.
-#[derive(Clone, Copy)]
-pub enum LevelOnlyAnswer {
-    Chosen { level: u8, count: usize },
-    Refused(SearchRefusal),
+#[derive(Clone, Copy, Debug, PartialEq, Eq)]
+pub struct FilterLevel {
+    pub level: u8,
+    pub count: usize,
 }

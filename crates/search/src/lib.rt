@@ -3,7 +3,7 @@
 
 pub mod answers;
 pub mod candidates;
-mod refusal;
+pub mod input;
 pub mod search;
 mod trials;
 pub mod unfiltered;

@@ -1,7 +1,7 @@
 // The trials of a search, in document 01's order, and what each makes of the best candidate so far. `specs/Private/SearchCode.antt` says each as a definition.
 ghost use Rattle.std.specs.Prelude.{◌≡◌, ◌+◌, ◌<◌, cond, eqb};
 ghost use Rattle.search.specs.Candidates.{near};
-ghost use Rattle.search.specs.Private.SearchCode.{coarse_at, trial_of, taken, with_winner};
+ghost use Rattle.search.specs.Private.SearchCode.{coarse_at, near_trial, sharpness_trial, trial_of, taken, with_winner};
 
 const HIGHEST_LEVEL: u8 = 63;
 
@@ -15,7 +15,7 @@ const LEVELS_END: usize = 80;
 pub(crate) const TRIALS: usize = 88;
 
 // The best candidate so far, its sum, the number of candidates scored at a level above 0, and the winner of the coarse levels.
-#[derive(Clone, Copy)]
+#[derive(Clone, Copy, Debug, PartialEq, Eq)]
 pub struct Best {
     pub level: u8,
     pub sharpness: u8,
@@ -24,12 +24,11 @@ pub struct Best {
     pub winner: u8,
 }
 
-// A candidate, or one to pass over.
-#[derive(Clone, Copy)]
+// The candidate of a trial.
+#[derive(Clone, Copy, Debug, PartialEq, Eq)]
 pub struct Trial {
     pub level: u8,
     pub sharpness: u8,
-    pub skip: bool,
 }
 
 // 4, 8 to 60, 63.
@@ -45,43 +44,59 @@ fn coarse_level(i: usize) -> u8
 }
 
 // Within 3 of the winner.
+#[tactic(auto, unfolding(crate::specs::Candidates::near))]
 fn is_near(winner: u8, level: u8) -> bool
     ensures { result ≡ near winner level }
 {
-    let w = winner as usize;
-    let l = level as usize;
+    let w = usize::from(winner);
+    let l = usize::from(level);
     (w <= l + 3) & (l <= w + 3)
 }
 
-// Trial i: a coarse level; a level near the winner but the best of the moment; another sharpness unless the best level is 0.
-pub(crate) fn next_trial(base: u8, i: usize, best: Best) -> Trial
+// Trial i: a coarse level; a level near the winner but the best of the moment; another sharpness unless the best level is 0. None is passed over.
+#[tactic(auto, unfolding(crate::specs::Private::SearchCode::trial_of))]
+pub(crate) fn next_trial(base: u8, i: usize, best: Best) -> Option<Trial>
     requires { i < 88 }
     ensures { result ≡ trial_of base i best }
 {
     if i < COARSE_END {
         let level = coarse_level(i);
-        return Trial {
-            level: level,
+        return Some(Trial {
+            level,
             sharpness: base,
-            skip: false,
-        };
+        });
     }
     if i < LEVELS_END {
         let level = (i - COARSE_END) as u8;
-        let close = is_near(best.winner, level);
-        return Trial {
-            level: level,
-            sharpness: base,
-            skip: !close | (level == best.level),
-        };
+        return near_trial(base, level, best);
     }
     let sharpness = (i - LEVELS_END) as u8;
-    let level = best.level;
-    Trial {
-        level: level,
-        sharpness: sharpness,
-        skip: (level == 0) | (sharpness == base),
+    sharpness_trial(base, sharpness, best)
+}
+
+#[tactic(auto, unfolding(crate::specs::Private::SearchCode::near_trial))]
+fn near_trial(base: u8, level: u8, best: Best) -> Option<Trial>
+    ensures { result ≡ near_trial base level best }
+{
+    let close = is_near(best.winner, level);
+    if !close | (level == best.level) {
+        return None;
     }
+    Some(Trial {
+        level,
+        sharpness: base,
+    })
+}
+
+#[tactic(auto, unfolding(crate::specs::Private::SearchCode::sharpness_trial))]
+fn sharpness_trial(base: u8, sharpness: u8, best: Best) -> Option<Trial>
+    ensures { result ≡ sharpness_trial base sharpness best }
+{
+    let level = best.level;
+    if (level == 0) | (sharpness == base) {
+        return None;
+    }
+    Some(Trial { level, sharpness })
 }
 
 // One more, of a level above 0.
@@ -93,40 +108,33 @@ fn counted(level: u8, count: usize) -> usize
 }
 
 // Only a strictly smaller sum replaces.
-pub(crate) fn take(best: Best, level: u8, sharpness: u8, sum: u64) -> Best
+#[tactic(auto, unfolding(crate::specs::Private::SearchCode::taken))]
+pub(crate) fn take(best: Best, trial: Trial, sum: u64) -> Best
     requires { best.«count» < 100 }
-    ensures { result ≡ taken best level sharpness sum }
+    ensures { result ≡ taken best trial.«level» trial.«sharpness» sum }
 {
-    let count = counted(level, best.count);
+    let count = counted(trial.level, best.count);
     if sum < best.sum {
         return Best {
-            level: level,
-            sharpness: sharpness,
-            sum: sum,
-            count: count,
-            winner: best.winner,
+            level: trial.level,
+            sharpness: trial.sharpness,
+            sum,
+            count,
+            ..best
         };
     }
-    Best {
-        level: best.level,
-        sharpness: best.sharpness,
-        sum: best.sum,
-        count: count,
-        winner: best.winner,
-    }
+    Best { count, ..best }
 }
 
 // The winner is the best of the coarse levels.
+#[tactic(auto, unfolding(crate::specs::Private::SearchCode::with_winner))]
 pub(crate) fn note_winner(i: usize, best: Best) -> Best
     ensures { result ≡ with_winner i best }
 {
     if i < COARSE_END {
         return Best {
-            level: best.level,
-            sharpness: best.sharpness,
-            sum: best.sum,
-            count: best.count,
             winner: best.level,
+            ..best
         };
     }
     best

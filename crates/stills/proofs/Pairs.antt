@@ -15,15 +15,15 @@ use Rattle.sums.specs.declared.answers.SearchRefusal.{SearchRefusal}
 use Rattle.scratch.specs.Copies.{copy_grid, copied_grid}
 use Rattle.scratch.proofs.CopyLaws.{steps_next}
 use Rattle.search.specs.Candidates.{Candidate, Standing, consider, unfiltered}
-use Rattle.search.specs.Search.{SearchCall, planes_of_candidate, score, base_sharpness, search_refusal, Unfiltered}
+use Rattle.search.specs.Search.{SearchCall, planes_of_candidate, score, base_sharpness, search_refusal, unfiltered_answer}
 use Rattle.search.specs.Private.Ready.{Ready}
 use Rattle.search.proofs.Endings.{zero-score, not-started}
 use Rattle.search.proofs.Scores.{candidate-made}
 use Rattle.stills.specs.Answers.{full_outcome}
 use Rattle.stills.specs.FullSearch.{pair_at, after_pairs, full_search, full_choice, full_answer, scratch_after_full, FullSearched}
 use Rattle.stills.specs.Private.FullCode.{best_of, taken, AllTried, Ended}
-use Rattle.stills.specs.declared.answers.FullAnswer.TheVariants.{Chosen, Refused}
-use Rattle.stills.specs.declared.full_search.Best.{Best}
+use Rattle.std.specs.Prelude.{Ok, Err}
+use Rattle.stills.specs.declared.answers.Best.{Best}
 
 module _ (W : Pass) (a : SearchCall W) where
   taken_is : (s : Standing) (c : Candidate) → taken (best_of s) c.level c.sharpness (score W a c) ≡ best_of (consider (score W a) (base_sharpness a.settings) s c)
@@ -67,20 +67,15 @@ module _ (W : Pass) (a : SearchCall W) where
         ∙ h.scratch.over (planes_of_candidate W a (full_search W a).best);
   }
 
-  pub chosen : search_refusal W a ≡ 0 → (r : Best) (after : Planes) → Ended W a r after
-      → FullSearched W a (full_outcome (Chosen r.«level» r.«sharpness» r.«sum»)) after
-  unfolding full_answer scratch_after_full full_outcome full_choice
+  pub chosen : search_refusal W a ≡ 0 → (r : Best) (after : Planes) → Ended W a r after → FullSearched W a (full_outcome (Ok r)) after
+  unfolding full_answer scratch_after_full full_choice
   chosen accepted r after h =
       let n : eqb (search_refusal W a) 0 ≡ true = eq-eqb (search_refusal W a) 0 accepted in
       record { answer = rw n (ap (λ (b : Best). gives (record { level = b.«level»; sharpness = b.«sharpness»; sum = b.«sum» })) h.best); scratch = rw n h.scratch }
 
-  pub refused : (w : SearchRefusal) (after : Planes) → Unfiltered W a (refuses (search_refusal_number w)) after → FullSearched W a (full_outcome (Refused w)) after
-  unfolding full_answer scratch_after_full full_outcome
-  refused w after h =
-      let (never, e) = not-started W a (search_refusal_number w) h.answer in
+  pub refused : (w : SearchRefusal) (after : Planes) → refuses (search_refusal_number w) ≡ unfiltered_answer W a → after ≡ a.scratch → FullSearched W a (full_outcome (Err w)) after
+  unfolding full_answer scratch_after_full
+  refused w after h k =
+      let (never, e) = not-started W a (search_refusal_number w) h in
       let n : eqb (search_refusal W a) 0 ≡ false = ne_eqb (search_refusal W a) 0 never in
-      record { answer = rw n (ap refuses e); scratch = rw n h.scratch }
-
--- a call whose scratch planes are others, that are the same
-pub other-scratch : (W : Pass) (a b : SearchCall W) (r : Best) (after : Planes) → b ≡ a → Ended W b r after → Ended W a r after
-other-scratch W a b r after e h = subst (λ (x : SearchCall W). Ended W x r after) e h
+      record { answer = rw n (ap refuses e); scratch = rw n k }

@@ -1,9 +1,9 @@
-// What the full search answers. `specs/Answers.antt` gives each case its number in document 01 and its values.
-use sums::answers::SearchRefusal;
+// What the full search chooses. `specs/Answers.antt` gives its values in document 01.
 
-// The chosen level and sharpness, and their error sum; or a refusal.
-#[derive(Clone, Copy)]
-pub enum FullAnswer {
-    Chosen { level: u8, sharpness: u8, sum: u64 },
-    Refused(SearchRefusal),
+// The level and sharpness, and their error sum.
+#[derive(Clone, Copy, Debug, PartialEq, Eq)]
+pub struct Best {
+    pub level: u8,
+    pub sharpness: u8,
+    pub sum: u64,
 }

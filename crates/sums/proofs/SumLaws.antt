@@ -1,21 +1,19 @@
 -- Laws of the sums.
 use mathlib.Core.Path.{◌≡◌, refl, ap, subst, ◌∙◌}
 use mathlib.Core.Bool.{Bool, true, false, cond}
-use mathlib.Core.List.{List, [], ◌∷◌}
+use mathlib.Core.List.{List}
 use Prim.Native.Nat.{ℕ, zero, suc, ◌+◌, ◌*◌, ◌-◌, ◌≤◌, ◌<◌, ◌^◌}
 use native.Mathlib.Numerals.{add-one}
 use native.Mathlib.Nat.{mul-le-mul, add-zero, add-suc}
 use native.Mathlib.Omega.{arith}
 use lib.Dec.{ltb}
 use lib.ListN.{get_or}
-use denote.Enum.Declared.{tag_of}
-use types.Run.{OneOf, miss}
 use borrow.Author.Tests.{lt-ltb, le-ltb, ltb-true, ltb-false}
+use Rattle.std.specs.Int.{abs_diff}
 use Rattle.sums.specs.Sums.{squared, row_sum, rows_sum}
 use Rattle.sums.specs.Private.SumCode.{fitting}
-use Rattle.sums.specs.declared.answers.SumAnswer.{SumAnswer}
-use Rattle.sums.specs.contracts.answers.SumAnswer.{the_type}
-use Rattle.sums.specs.declared.answers.SumAnswer.TheVariants.{Sum, Refused}
+use Rattle.std.specs.Prelude.{Result, Ok, Err}
+use Rattle.sums.specs.declared.answers.SearchRefusal.{SearchRefusal}
 use Rattle.sums.specs.declared.answers.SearchRefusal.TheVariants.{SumTooLarge}
 
 -- ---- squares
@@ -23,13 +21,9 @@ use Rattle.sums.specs.declared.answers.SearchRefusal.TheVariants.{SumTooLarge}
 pub square_le : (d : ℕ) → d < 256 → d * d ≤ 65025
 square_le d h = mul-le-mul {n₁ = d} {m₁ = d} {n₂ = 255} {m₂ = 255} (omega arith) (omega arith)
 
-pub squared-below : (a b : ℕ) → a < b → (b - a) * (b - a) ≡ squared a b
+pub squared_apart : (a b : ℕ) → abs_diff a b * abs_diff a b ≡ squared a b
 unfolding squared
-squared-below a b h = ap (λ (n : ℕ). n * n) (omega arith)
-
-pub squared-above : (a b : ℕ) → b ≤ a → (a - b) * (a - b) ≡ squared a b
-unfolding squared
-squared-above a b h = ap (λ (n : ℕ). n * n) (omega arith)
+squared_apart a b = ap (λ (n : ℕ). n * n) (omega arith)
 
 -- ---- rows
 
@@ -71,45 +65,38 @@ no-height a s b t w = refl
 
 -- ---- sums that fit
 
-pub sum_is : (n : ℕ) → n < 2 ^ 64 → Sum n ≡ fitting n
+pub sum_is : (n : ℕ) → n < 2 ^ 64 → Ok n ≡ fitting n
 unfolding fitting
 sum_is n h = rw (lt-ltb n (2 ^ 64) h)
 
-pub sum_over : (n : ℕ) → 2 ^ 64 ≤ n → Refused SumTooLarge ≡ fitting n
+pub sum_over : (n : ℕ) → 2 ^ 64 ≤ n → Err SumTooLarge ≡ fitting n
 unfolding fitting
 sum_over n h = rw (le-ltb n (2 ^ 64) h)
 
--- what an answer that is a sum says
-pub sum-says : (n m : ℕ) → Sum m ≡ fitting n → (m ≡ n) × (n < 2 ^ 64)
+-- ---- three sums, one after the other
+
+fits-below : (n : ℕ) (m : ℕ) → Ok m ≡ fitting n → (m ≡ n) × (n < 2 ^ 64)
 unfolding fitting
-sum-says n m e = by (ltb n (2 ^ 64)) (ltb-true n (2 ^ 64)) e
+fits-below n m e = by (ltb n (2 ^ 64)) (ltb-true n (2 ^ 64)) e
   where
-    by : (t : Bool) → (t ≡ true → n < 2 ^ 64) → Sum m ≡ cond t (Sum n) (Refused SumTooLarge) → (m ≡ n) × (n < 2 ^ 64)
+    by : (t : Bool) → (t ≡ true → n < 2 ^ 64) → Ok m ≡ cond t (Ok n) (Err SumTooLarge) → (m ≡ n) × (n < 2 ^ 64)
     by true h e = (cc, h refl)
     by false h e = let z : ◌≡◌ {A = ℕ} 0 1 = cc in absurd (omega arith)
 
--- and what any other says
-pub other-says : (n : ℕ) (r : SumAnswer) → r ≡ fitting n → ((m : ℕ) → r ≡ Sum m → ⊥) → 2 ^ 64 ≤ n
+refuses-above : (n : ℕ) (r : SearchRefusal) → Err r ≡ fitting n → (r ≡ SumTooLarge) × (2 ^ 64 ≤ n)
 unfolding fitting
-other-says n r e no-sum = by (ltb n (2 ^ 64)) (ltb-false n (2 ^ 64)) e
+refuses-above n r e = by (ltb n (2 ^ 64)) (ltb-false n (2 ^ 64)) e
   where
-    by : (t : Bool) → (t ≡ false → 2 ^ 64 ≤ n) → r ≡ cond t (Sum n) (Refused SumTooLarge) → 2 ^ 64 ≤ n
-    by true h e = absurd (no-sum n e)
-    by false h e = h refl
-
--- an answer of another case is no sum
-pub not-sum : (r : SumAnswer) → OneOf (1 ∷ []) (tag_of the_type r) → (m : ℕ) → r ≡ Sum m → ⊥
-not-sum (Sum n) k m e = miss (1 ∷ []) 0 tt k
-not-sum (Refused why) k m e = let z : ◌≡◌ {A = ℕ} 0 1 = cc in absurd (omega arith)
-
--- ---- three sums, one after the other
+    by : (t : Bool) → (t ≡ false → 2 ^ 64 ≤ n) → Err r ≡ cond t (Ok n) (Err SumTooLarge) → (r ≡ SumTooLarge) × (2 ^ 64 ≤ n)
+    by true h e = let z : ◌≡◌ {A = ℕ} 0 1 = cc in absurd (omega arith)
+    by false h e = (cc, h refl)
 
 module _ (p q r : ℕ) where
-  pub over-one : (x : SumAnswer) → x ≡ fitting (0 + p) → ((m : ℕ) → x ≡ Sum m → ⊥) → Refused SumTooLarge ≡ fitting (p + q + r)
-  over-one x e no-sum = sum_over (p + q + r) (omega (arith, other-says (0 + p) x e no-sum))
+  pub over-one : (x : SearchRefusal) → Err x ≡ fitting (0 + p) → Err x ≡ fitting (p + q + r)
+  over-one x e = let k = refuses-above (0 + p) x e in ap Err k.0 ∙ sum_over (p + q + r) (omega (arith, k.1))
 
-  pub over-two : (a : ℕ) (x : SumAnswer) → Sum a ≡ fitting (0 + p) → x ≡ fitting (a + q) → ((m : ℕ) → x ≡ Sum m → ⊥) → Refused SumTooLarge ≡ fitting (p + q + r)
-  over-two a x e f no-sum = sum_over (p + q + r) (omega (arith, sum-says (0 + p) a e, other-says (a + q) x f no-sum))
+  pub over-two : (a : ℕ) (x : SearchRefusal) → Ok a ≡ fitting (0 + p) → Err x ≡ fitting (a + q) → Err x ≡ fitting (p + q + r)
+  over-two a x e f = let k = refuses-above (a + q) x f in ap Err k.0 ∙ sum_over (p + q + r) (omega (arith, fits-below (0 + p) a e, k.1))
 
-  pub all_three : (a b : ℕ) (x : SumAnswer) → Sum a ≡ fitting (0 + p) → Sum b ≡ fitting (a + q) → x ≡ fitting (b + r) → x ≡ fitting (p + q + r)
-  all_three a b x e f g = g ∙ ap fitting (omega (arith, sum-says (0 + p) a e, sum-says (a + q) b f))
+  pub all_three : (a b : ℕ) (x : Result ℕ SearchRefusal) → Ok a ≡ fitting (0 + p) → Ok b ≡ fitting (a + q) → x ≡ fitting (b + r) → x ≡ fitting (p + q + r)
+  all_three a b x e f g = g ∙ ap fitting (omega (arith, fits-below (0 + p) a e, fits-below (a + q) b f))

@@ -1,25 +1,32 @@
 -- The refusals of the sums: what each condition gives, and what is left where none holds.
 use mathlib.Core.Path.{◌≡◌, refl, sym, ap, ◌∙◌}
 use mathlib.Core.Bool.{Bool, true, false, cond, ◌&&◌, ◌||◌}
-use mathlib.Core.Logic.{⊎_elim}
-use Prim.Native.Nat.{ℕ, ◌+◌, ◌*◌, ◌-◌, ◌/◌, ◌≤◌, ◌<◌, ◌^◌}
+use mathlib.Core.Logic.{◌⊎◌, inl, inr, ⊎_elim}
+use Prim.Native.Nat.{ℕ, ◌+◌, ◌*◌, ◌-◌, ◌≤◌, ◌<◌, ◌^◌}
 use native.Mathlib.Nat.{mul-le-mul_right, eq-zero-or-pos}
 use native.Mathlib.Omega.{arith}
-use lib.Dec.{ltb, leb, eqb}
+use lib.Dec.{ltb, eqb}
 use lib.ListN.{length}
-use borrow.Author.Tests.{le-leb, lt-leb, lt-ltb, le-ltb, ne_eqb, ltb-true, ltb-false}
+use borrow.Author.Tests.{le-leb, lt-leb, lt-ltb, le-ltb, ne_eqb, eqb-true, eqb-false, ltb-true, ltb-false}
 use Rattle.arithmetic.specs.Outcome.{gives, refuses}
 use Rattle.planes.specs.Planes.{Plane, luma, chroma_u, chroma_v, Planes, Grid, side, stride, plane, PlanesHold}
-use Rattle.planes.specs.GridRefusals.{past_grid}
+use Rattle.arithmetic.specs.Outcome.{outcome, number_of}
+use Rattle.planes.specs.GridRefusals.{past_grid, grid_refusal, grid_refusal_number}
+use Rattle.planes.specs.declared.grid.GridRefusal.{GridRefusal}
+use Rattle.planes.specs.declared.grid.GridRefusal.TheVariants as grid
+use Rattle.planes.proofs.GridLaws.{by_lengths}
 use Rattle.planes.proofs.GridLaws.{neither}
-use Rattle.planes.proofs.PastGrid.{Sound, grid-there, grid-sound, grid-passes, grid-stops}
+use Rattle.planes.proofs.PastGrid.{Sound, grid-there, grid-sound, grid-passes, grid-stops, grid-none}
 use Rattle.sums.specs.Source.{Source, half_up, source_too_large, bad_source_strides, short_source, source_needed, bad_source}
+use Rattle.std.specs.Int.{div_ceil}
 use Rattle.sums.specs.Source as of
 use Rattle.sums.specs.Sums.{error_sum, plane_sum, past_source, sum_too_large, sum_refusal, sum_answer}
-use Rattle.sums.specs.Private.SumCode.{fitting, stride_off, Room, Summable}
+use Rattle.sums.specs.Private.SumCode.{fitting, Room, Summable}
 use Rattle.sums.specs.Answers.{search_refusal_number, sum_outcome}
-use Rattle.sums.specs.declared.answers.SumAnswer.TheVariants.{Sum, Refused}
-use Rattle.sums.specs.declared.answers.SearchRefusal.TheVariants.{SumTooLarge}
+use Rattle.sums.specs.GridToSearch.{of_grid}
+use Rattle.sums.specs.declared.answers.SearchRefusal.{SearchRefusal}
+use Rattle.std.specs.Prelude.{Result, Ok, Err}
+use Rattle.sums.specs.declared.answers.SearchRefusal.TheVariants.{TooLarge, BadStrides, ShortPlane, BadEntry, SourceTooLarge, BadSource, SumTooLarge}
 use Rattle.sums.proofs.SumLaws.{no-width, no-height}
 
 -- ---- tests
@@ -34,54 +41,61 @@ true-false e = let z : ◌≡◌ {A = ℕ} 0 1 = cc in absurd (omega arith)
 pub within : (s w h W H len : ℕ) → w ≤ W → h ≤ H → (H - 1) * s + W ≤ len → (h - 1) * s + w ≤ len
 within s w h W H len a b k = omega (arith, mul-le-mul_right {m = h - 1} {n = H - 1} s (omega arith))
 
--- 16 m is below n, without the product
-pub over-is : (m n : ℕ) → (n ≡ 0 → ⊥) → leb m ((n - 1) / 16) ≡ ltb (16 * m) n
-over-is m n nz = by (ltb (16 * m) n) refl
-  where
-    by : (b : Bool) → ltb (16 * m) n ≡ b → leb m ((n - 1) / 16) ≡ b
-    by true e = le-leb m ((n - 1) / 16) (omega (arith, ltb-true (16 * m) n e))
-    by false e = lt-leb m ((n - 1) / 16) (omega (arith, ltb-false (16 * m) n e, pos_of n nz))
-
--- ---- strides
-
--- what strides that are not off say
-pub record Strides (w cw ys us : ℕ) : Type 0 where
-  pub luma : w ≤ ys
-  pub chroma : cw ≤ us
-  pub luma_most : ys ≤ 65536
-  pub chroma_most : us ≤ 65536
-
-pub strides : (w cw ys us : ℕ) → stride_off w cw ys us ≡ false → Strides w cw ys us
-unfolding stride_off
-strides w cw ys us e =
-    let (e3, d) = neither (ltb ys w || ltb us cw || ltb 65536 ys) (ltb 65536 us) e in
-    let (e2, c) = neither (ltb ys w || ltb us cw) (ltb 65536 ys) e3 in
-    let (a, b) = neither (ltb ys w) (ltb us cw) e2 in
-    record { luma = ltb-false ys w a; chroma = ltb-false us cw b; luma_most = ltb-false 65536 ys c; chroma_most = ltb-false 65536 us d }
-
 -- ---- 8 and 9
 
+-- a source with a sample
+pub sampled_source : (s : Source) → (eqb s.width 0 || eqb s.height 0) ≡ false → (0 < s.width) × (0 < s.height)
+sampled_source s e =
+    let n = neither (eqb s.width 0) (eqb s.height 0) e in
+    (pos_of s.width (eqb-false s.width 0 n.0), pos_of s.height (eqb-false s.height 0 n.1))
+
+-- and one without: its width or its height is 0
+pub empty_source : (s : Source) → (eqb s.width 0 || eqb s.height 0) ≡ true → (s.width ≡ 0) ⊎ (s.height ≡ 0)
+empty_source s e = by (eqb s.width 0) (eqb s.height 0) (eqb-true s.width 0) (eqb-true s.height 0) e
+  where
+    by : (a b : Bool) → (a ≡ true → s.width ≡ 0) → (b ≡ true → s.height ≡ 0) → (a || b) ≡ true → (s.width ≡ 0) ⊎ (s.height ≡ 0)
+    by true b f g e = inl (f refl)
+    by false b f g e = inr (g e)
+
+-- what strides that are not off say
+pub small_strides : (s : Source) → bad_source_strides s ≡ false → (s.luma_stride ≤ 65536) × (s.chroma_stride ≤ 65536)
+unfolding bad_source_strides
+small_strides s e =
+    let (e3, d) = neither (ltb s.luma_stride (of.wide s luma) || ltb s.chroma_stride (of.wide s chroma_u) || ltb 65536 s.luma_stride) (ltb 65536 s.chroma_stride) e in
+    let (e2, c) = neither (ltb s.luma_stride (of.wide s luma) || ltb s.chroma_stride (of.wide s chroma_u)) (ltb 65536 s.luma_stride) e3 in
+    (ltb-false 65536 s.luma_stride c, ltb-false 65536 s.chroma_stride d)
+
 module _ (g : Grid) (s : Source) where
-  pub wide-eight : ltb (16 * g.columns) s.width ≡ true → 8 ≡ past_source g s 0
-  unfolding past_source source_too_large
-  wide-eight a = rw a
+  pub eight : source_too_large g s ≡ true → 8 ≡ past_source g s 0
+  unfolding past_source
+  eight e = rw e
 
-  pub high-eight : ltb (16 * g.columns) s.width ≡ false → ltb (16 * g.rows) s.height ≡ true → 8 ≡ past_source g s 0
-  unfolding past_source source_too_large
-  high-eight a b = rw (a, b)
+  pub nothing-wide : source_too_large g s ≡ false → s.width ≡ 0 → 0 ≡ past_source g s 0
+  unfolding past_source bad_source
+  nothing-wide a w = rw (a, le-ltb 0 s.width (omega arith))
 
-  pub no-columns : ltb (16 * g.columns) s.width ≡ false → ltb (16 * g.rows) s.height ≡ false → s.width ≡ 0 → 0 ≡ past_source g s 0
-  unfolding past_source source_too_large bad_source
-  no-columns a b w = rw (a, b, le-ltb 0 s.width (omega arith))
+  pub nothing-high : source_too_large g s ≡ false → 0 < s.width → s.height ≡ 0 → 0 ≡ past_source g s 0
+  unfolding past_source bad_source
+  nothing-high a w h = rw (a, lt-ltb 0 s.width w, le-ltb 0 s.height (omega arith))
 
-  pub no_rows : ltb (16 * g.columns) s.width ≡ false → ltb (16 * g.rows) s.height ≡ false → (s.width ≡ 0 → ⊥) → s.height ≡ 0 → 0 ≡ past_source g s 0
-  unfolding past_source source_too_large bad_source
-  no_rows a b w h = rw (a, b, lt-ltb 0 s.width (pos_of s.width w), le-ltb 0 s.height (omega arith))
+  pub no-sample : source_too_large g s ≡ false → (eqb s.width 0 || eqb s.height 0) ≡ true → 0 ≡ past_source g s 0
+  no-sample a e = ⊎_elim (nothing-wide a) (λ h. ⊎_elim (nothing-wide a) (λ w. nothing-high a w h) (eq-zero-or-pos s.width)) (empty_source s e)
 
-  pub is-source : ltb (16 * g.columns) s.width ≡ false → ltb (16 * g.rows) s.height ≡ false → (s.width ≡ 0 → ⊥) → (s.height ≡ 0 → ⊥)
+  pub is-source : source_too_large g s ≡ false → (eqb s.width 0 || eqb s.height 0) ≡ false
       → (b : Bool) → b ≡ (bad_source_strides s || short_source s) → cond b 9 0 ≡ past_source g s 0
-  unfolding past_source source_too_large bad_source
-  is-source a b w h t e = rw (a, b, lt-ltb 0 s.width (pos_of s.width w), lt-ltb 0 s.height (pos_of s.height h), e)
+  unfolding past_source bad_source
+  is-source a e b f = let k = sampled_source s e in rw (a, lt-ltb 0 s.width k.0, lt-ltb 0 s.height k.1, f)
+
+  -- what 8 leaves of a grid that passes 1
+  pub small_source : (columns rows : ℕ) → columns ≡ g.columns → rows ≡ g.rows → (0 < columns → 0 < rows → (columns ≤ 1024) × (rows ≤ 1024))
+      → source_too_large g s ≡ false → (eqb s.width 0 || eqb s.height 0) ≡ false → (0 < s.width) × (0 < s.height) × (s.width ≤ 16384) × (s.height ≤ 16384)
+  unfolding source_too_large
+  small_source columns rows ec er small a e =
+      let k = sampled_source s e in
+      let n = neither (ltb (16 * g.columns) s.width) (ltb (16 * g.rows) s.height) a in
+      let w = ltb-false (16 * g.columns) s.width n.0 in
+      let h = ltb-false (16 * g.rows) s.height n.1 in
+      let q = small (omega arith) (omega arith) in omega arith
 
   pub source-passes : (rest : ℕ) → past_source g s 0 ≡ 0 → past_source g s rest ≡ rest
   unfolding past_source
@@ -100,15 +114,6 @@ module _ (g : Grid) (s : Source) where
       by true b e = sym e
       by false true e = sym e
       by false false e = absurd (nz e)
-
-  pub is-nine : (n : ℕ) → n ≡ past_source g s 0 → (n ≡ 8 → ⊥) → (n ≡ 0 → ⊥) → n ≡ 9
-  unfolding past_source
-  is-nine n e n8 n0 = by (source_too_large g s) (bad_source s) e
-    where
-      by : (a b : Bool) → n ≡ cond a 8 (cond b 9 0) → n ≡ 9
-      by true b e = absurd (n8 e)
-      by false true e = e
-      by false false e = absurd (n0 e)
 
   -- what 8 leaves
   pub in-grid : past_source g s 0 ≡ 0 → (s.width ≤ 16 * g.columns) × (s.height ≤ 16 * g.rows)
@@ -173,29 +178,37 @@ module _ (g : Grid) (p : Planes) (s : Source) (e : past_grid g p 0 ≡ 0) (f : p
 
 -- ---- the answer
 
+-- 1, 2, 3, 8 and 9 come before what is left to refuse
+pub sum_stops : (g : Grid) (p : Planes) (s : Source) (rest n : ℕ) → n ≡ past_grid g p (past_source g s 0) → (n ≡ 0 → ⊥) → past_grid g p (past_source g s rest) ≡ n
+sum_stops g p s rest n e nz = by (eqb (past_grid g p 0) 0) refl
+  where
+    by : (b : Bool) → eqb (past_grid g p 0) 0 ≡ b → past_grid g p (past_source g s rest) ≡ n
+    by true t =
+        let f : past_grid g p 0 ≡ 0 = eqb-true (past_grid g p 0) 0 t in
+        grid-passes g p (past_source g s rest) f ∙ source-stops g s rest n (e ∙ grid-passes g p (past_source g s 0) f) nz
+    by false t =
+        let f : past_grid g p 0 ≡ 0 → ⊥ = eqb-false (past_grid g p 0) 0 t in
+        grid-stops g p (past_source g s rest) (past_grid g p 0) refl f
+        ∙ sym (e ∙ grid-stops g p (past_source g s 0) (past_grid g p 0) refl f)
+
 module _ (g : Grid) (p : Planes) (s : Source) where
   refused : (n : ℕ) → sum_refusal g p s ≡ n → (n ≡ 0 → ⊥) → refuses n ≡ sum_answer g p s
   unfolding sum_answer
   refused n e nz = rw (ne_eqb (sum_refusal g p s) 0 (λ z. nz (sym e ∙ z)), e)
 
-  pub ends-grid : (n : ℕ) → n ≡ past_grid g p 0 → (n ≡ 0 → ⊥) → refuses n ≡ sum_answer g p s
+  pub ends-before : (n : ℕ) → n ≡ past_grid g p (past_source g s 0) → (n ≡ 0 → ⊥) → refuses n ≡ sum_answer g p s
   unfolding sum_refusal
-  ends-grid n e nz = refused n (grid-stops g p (past_source g s (cond (sum_too_large (error_sum g p s)) 10 0)) n e nz) nz
-
-  pub ends-source : (n : ℕ) → past_grid g p 0 ≡ 0 → n ≡ past_source g s 0 → (n ≡ 0 → ⊥) → refuses n ≡ sum_answer g p s
-  unfolding sum_refusal
-  ends-source n e f nz =
-      refused n (grid-passes g p (past_source g s (cond (sum_too_large (error_sum g p s)) 10 0)) e ∙ source-stops g s (cond (sum_too_large (error_sum g p s)) 10 0) n f nz) nz
+  ends-before n e nz = refused n (sum_stops g p s (cond (sum_too_large (error_sum g p s)) 10 0) n e nz) nz
 
   pub judged : past_grid g p 0 ≡ 0 → past_source g s 0 ≡ 0 → sum_refusal g p s ≡ cond (sum_too_large (error_sum g p s)) 10 0
   unfolding sum_refusal
   judged e f = grid-passes g p (past_source g s (cond (sum_too_large (error_sum g p s)) 10 0)) e ∙ source-passes g s (cond (sum_too_large (error_sum g p s)) 10 0) f
 
   pub ends-sum : past_grid g p 0 ≡ 0 → past_source g s 0 ≡ 0 → sum_outcome (fitting (error_sum g p s)) ≡ sum_answer g p s
-  unfolding sum_answer fitting search_refusal_number sum_outcome sum_too_large
+  unfolding sum_answer fitting sum_too_large
   ends-sum e f = by (ltb (error_sum g p s) (2 ^ 64)) refl
     where
-      by : (b : Bool) → ltb (error_sum g p s) (2 ^ 64) ≡ b → sum_outcome (cond b (Sum (error_sum g p s)) (Refused SumTooLarge)) ≡ cond (eqb (sum_refusal g p s) 0) (gives (error_sum g p s)) (refuses (sum_refusal g p s))
+      by : (b : Bool) → ltb (error_sum g p s) (2 ^ 64) ≡ b → sum_outcome (cond b (Ok (error_sum g p s)) (Err SumTooLarge)) ≡ cond (eqb (sum_refusal g p s) 0) (gives (error_sum g p s)) (refuses (sum_refusal g p s))
       by true t = rw (judged e f, lt-leb (2 ^ 64) (error_sum g p s) (ltb-true (error_sum g p s) (2 ^ 64) t))
       by false t = rw (judged e f, le-leb (2 ^ 64) (error_sum g p s) (ltb-false (error_sum g p s) (2 ^ 64) t))
 
@@ -212,12 +225,60 @@ module _ (g : Grid) (p : Planes) (s : Source) where
   unfolding error_sum plane_sum
   no-sample-high e = rw e (omega (arith, no-height p.y g.luma_stride s.samples.y s.luma_stride s.width, no-height p.u g.chroma_stride s.samples.u s.chroma_stride (half_up s.width), no-height p.v g.chroma_stride s.samples.v s.chroma_stride (half_up s.width)))
 
--- a source that has a sample and is not 8
-pub small-source : (cols rows w h : ℕ) → (0 < cols → 0 < rows → (cols ≤ 1024) × (rows ≤ 1024)) → ltb (16 * cols) w ≡ false → ltb (16 * rows) h ≡ false → (w ≡ 0 → ⊥) → (h ≡ 0 → ⊥)
-    → (0 < w) × (0 < h) × (w ≤ 16384) × (h ≤ 16384)
-small-source cols rows w h pre a b nw nh =
-    let k = ltb-false (16 * cols) w a in let l = ltb-false (16 * rows) h b in let i = pos_of w nw in let j = pos_of h nh in
-    let q = pre (omega arith) (omega arith) in omega arith
+-- a source without a sample
+pub none-sums : (g : Grid) (p : Planes) (s : Source) → (eqb s.width 0 || eqb s.height 0) ≡ true → error_sum g p s ≡ 0
+none-sums g p s e = ⊎_elim (no-sample-wide g p s) (no-sample-high g p s) (empty_source s e)
 
 pub ends-empty : (g : Grid) (p : Planes) (s : Source) → past_grid g p 0 ≡ 0 → past_source g s 0 ≡ 0 → error_sum g p s ≡ 0 → gives 0 ≡ sum_answer g p s
 ends-empty g p s e f z = ap gives (sym z) ∙ ends-fit g p s e f (omega arith)
+
+-- ---- the code's answers, step by step
+
+pub some_search : (n : SearchRefusal) → search_refusal_number n ≡ 0 → ⊥
+some_search TooLarge z = omega arith
+some_search BadStrides z = omega arith
+some_search ShortPlane z = omega arith
+some_search BadEntry z = omega arith
+some_search SourceTooLarge z = omega arith
+some_search BadSource z = omega arith
+some_search SumTooLarge z = omega arith
+
+same_number : (n : GridRefusal) → search_refusal_number (of_grid n) ≡ grid_refusal_number n
+same_number grid.TooLarge = refl
+same_number grid.BadStrides = refl
+same_number grid.ShortPlane = refl
+
+module _ (g : Grid) (p : Planes) (y u v : ℕ) (ey : y ≡ length p.y) (eu : u ≡ length p.u) (ev : v ≡ length p.v)
+    (r : Result Unit GridRefusal) (e : number_of (outcome grid_refusal_number r) ≡ grid_refusal g y u v) where
+  told : number_of (outcome grid_refusal_number r) ≡ past_grid g p 0
+  told = e ∙ rw (ey, eu, ev) (by_lengths g p)
+
+  pub stopped_by_grid : (rest : ℕ) (n : GridRefusal) (x : Result Unit SearchRefusal) → r ≡ Err n → x ≡ Err (of_grid n)
+      → number_of (outcome search_refusal_number x) ≡ past_grid g p rest
+  unfolding number_of
+  stopped_by_grid rest n x h q =
+      let number : search_refusal_number (of_grid n) ≡ past_grid g p 0 = same_number n ∙ sym (ap (λ (t : Result Unit GridRefusal). number_of (outcome grid_refusal_number t)) h) ∙ told in
+      ap (λ (t : Result Unit SearchRefusal). number_of (outcome search_refusal_number t)) q
+      ∙ sym (grid-stops g p rest (search_refusal_number (of_grid n)) number (some_search (of_grid n)))
+
+  pub passed_grid : (n : Unit) → r ≡ Ok n → past_grid g p 0 ≡ 0
+  unfolding number_of
+  passed_grid n h = sym told ∙ ap (λ (t : Result Unit GridRefusal). number_of (outcome grid_refusal_number t)) h
+
+module _ (g : Grid) (p : Planes) (s : Source) (r : Result Unit SearchRefusal) (e : number_of (outcome search_refusal_number r) ≡ past_grid g p (past_source g s 0)) where
+  number_at : (n : SearchRefusal) → r ≡ Err n → search_refusal_number n ≡ past_grid g p (past_source g s 0)
+  unfolding number_of
+  number_at n h = sym (ap (λ (t : Result Unit SearchRefusal). number_of (outcome search_refusal_number t)) h) ∙ e
+
+  pub stopped_before : (rest : ℕ) (n : SearchRefusal) → r ≡ Err n → past_grid g p (past_source g s rest) ≡ search_refusal_number n
+  stopped_before rest n h = sum_stops g p s rest (search_refusal_number n) (number_at n h) (some_search n)
+
+  pub stopped_sum : (n : SearchRefusal) (x : Result ℕ SearchRefusal) → r ≡ Err n → x ≡ Err n → sum_outcome x ≡ sum_answer g p s
+  stopped_sum n x h q = ap sum_outcome q ∙ ends-before g p s (search_refusal_number n) (number_at n h) (some_search n)
+
+  pub passed_sum : (n : Unit) → r ≡ Ok n → (past_grid g p 0 ≡ 0) × (past_source g s 0 ≡ 0)
+  unfolding number_of
+  passed_sum n h = grid-none g p (past_source g s 0) (sym e ∙ ap (λ (t : Result Unit SearchRefusal). number_of (outcome search_refusal_number t)) h)
+
+pub half_is : (n : ℕ) → div_ceil n 2 ≡ half_up n
+half_is n = omega arith

@@ -2,4 +2,5 @@
 #![tactic(auto)]
 
 pub mod answers;
+pub mod source;
 pub mod sums;

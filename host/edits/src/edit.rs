@@ -50,7 +50,8 @@ pub fn edited(crate_dir: &Path, edit: &[Replacement]) -> Result<Edited, String> 
         if file.starts_with("src/")
             && let Some(function) = function_at(text, at)
         {
-            functions.push(format!("{}::{function}", module(file)));
+            let of_type = function.split_once("::").and_then(|(kind, _)| declares(crate_dir, kind));
+            functions.push(format!("{}::{function}", of_type.unwrap_or_else(|| module(file))));
         }
         text.replace_range(at..at + replacement.old.len(), &replacement.new);
     }
@@ -64,23 +65,54 @@ fn module(file: &str) -> String {
     file.trim_start_matches("src/").trim_end_matches(".rt").replace('/', "::")
 }
 
+/// The module that declares a type: the prover names its methods there, wherever they are written.
+fn declares(crate_dir: &Path, kind: &str) -> Option<String> {
+    let mut files = std::fs::read_dir(crate_dir.join("src")).ok()?.flatten();
+    files.find_map(|file| {
+        let text = std::fs::read_to_string(file.path()).ok()?;
+        let here = |line: &str| {
+            let line = line.trim_start_matches("pub(crate) ").trim_start_matches("pub ");
+            ["struct ", "enum "].iter().any(|of| line.strip_prefix(of).is_some_and(|name| word(name) == kind))
+        };
+        text.lines().any(here).then(|| module(&format!("src/{}", file.file_name().to_string_lossy())))
+    })
+}
+
 /// The function whose signature, contract or body `at` lies in.
 fn function_at(text: &str, at: usize) -> Option<String> {
     let end = text[at..].find('\n').map_or(text.len(), |length| at + length);
     let mut kind = None;
     let mut function = None;
     for line in text[..end].lines() {
-        if let Some(name) = line.strip_prefix("impl ") {
-            kind = Some(word(name));
+        if let Some(name) = block(line) {
+            kind = Some(name);
         } else if line == "}" && kind.is_some() {
             kind = None;
         } else if let Some(name) = declared(line) {
-            function = Some(kind.map_or(name.to_string(), |kind| format!("{kind}::{name}")));
+            function = Some(kind.as_ref().map_or(name.to_string(), |kind| format!("{kind}::{name}")));
         } else if line.starts_with("const ") {
             function = None;
         }
     }
     function
+}
+
+/// An `impl` that a line begins, as the prover names it: by its type, and by its trait with its argument after that.
+fn block(line: &str) -> Option<String> {
+    let rest = line.strip_prefix("impl")?;
+    let name = match rest.strip_prefix('<') {
+        Some(generic) => generic.split_once("> ")?.1,
+        None => rest.strip_prefix(' ')?,
+    };
+    let Some((of, kind)) = name.split_once(" for ") else { return Some(word(name).to_string()) };
+    let argument = of.split_once('<').map_or("", |(_, argument)| word(argument));
+    let argument = if argument.len() > 1 { capital(argument) } else { String::new() };
+    Some(format!("{}{}{argument}", capital(word(kind)), word(of)))
+}
+
+fn capital(name: &str) -> String {
+    let (first, rest) = name.split_at(name.len().min(1));
+    first.to_uppercase() + rest
 }
 
 /// The name of the function that a line begins.
@@ -100,7 +132,7 @@ fn word(text: &str) -> &str {
 mod tests {
     use super::*;
 
-    const TEXT: &str = "const A: u8 = 3;\n\n// fn in a comment\npub fn first(a: u8) -> u8\n    ensures { one }\n{\n    a\n}\n\nimpl Limits {\n    pub fn derive() {\n        two\n    }\n}\n\n#[unsafe(no_mangle)]\npub extern \"C\" fn last(\n    a: u8,\n) {\n    three\n}\n";
+    const TEXT: &str = "const A: u8 = 3;\n\n// fn in a comment\npub fn first(a: u8) -> u8\n    ensures { one }\n{\n    a\n}\n\nimpl Limits {\n    pub fn derive() {\n        two\n    }\n}\n\nimpl Filter for Normal {\n    fn run() {\n        four\n    }\n}\n\nimpl<'a> Filter for Wide<'a> {\n    fn run() {\n        five\n    }\n}\n\nimpl From<Limit> for u8 {\n    fn from() {\n        six\n    }\n}\n\n#[unsafe(no_mangle)]\npub extern \"C\" fn last(\n    a: u8,\n) {\n    three\n}\n";
 
     fn at(words: &str) -> Option<String> {
         function_at(TEXT, TEXT.find(words).expect("the text has it"))
@@ -111,6 +143,9 @@ mod tests {
         assert_eq!(at("const"), None);
         assert_eq!(at("one").as_deref(), Some("first"));
         assert_eq!(at("two").as_deref(), Some("Limits::derive"));
+        assert_eq!(at("four").as_deref(), Some("NormalFilter::run"));
+        assert_eq!(at("five").as_deref(), Some("WideFilter::run"));
+        assert_eq!(at("six").as_deref(), Some("U8FromLimit::from"));
         assert_eq!(at("three").as_deref(), Some("last"));
     }
 

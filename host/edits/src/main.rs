@@ -20,10 +20,6 @@ use std::sync::Mutex;
 /// The most checks at a time: each takes a gigabyte or two.
 const MOST: usize = 4;
 
-/// Functions that an edit changes and that hold with it: here the exchange in the definition `source_in` and the one in the function's
-/// clause cancel out. What the function calls is refused.
-const HOLDS: [(&str, &str); 1] = [("source/u_and_v_exchanged", "borrowed::select_filter_params_from")];
-
 fn main() -> ExitCode {
     let names: Vec<String> = std::env::args().skip(1).collect();
     match check(&names) {
@@ -97,11 +93,7 @@ fn check(names: &[String]) -> Result<Vec<String>, String> {
     });
     let mut faults = faults.into_inner().expect("no worker panics")?;
     faults.sort();
-    println!(
-        "edits: {count} must-fail edits, {places} changed functions, each refused itself but {}, and {} that hold",
-        faults.len(),
-        HOLDS.len()
-    );
+    println!("edits: {count} must-fail edits, {places} changed functions, each refused itself but {}", faults.len());
     Ok(faults)
 }
 
@@ -134,8 +126,7 @@ fn tried(root: &Path, copy: &Copy, crate_name: &str, edit: &Edit) -> Result<Vec<
         write(&dir.join(file), &read(&root.join("crates").join(crate_name).join(file))?)?;
     }
     let label = format!("{crate_name}/{}", edit.label);
-    let holds = |function: &str| HOLDS.contains(&(label.as_str(), function));
-    let missing = edit.functions.iter().filter(|function| !holds(function) && !refuses(&log, crate_name, function));
+    let missing = edit.functions.iter().filter(|function| !refuses(&log, crate_name, function));
     Ok(missing.map(|function| format!("{label}: {function} is changed, and not refused")).collect())
 }
 

@@ -141,7 +141,10 @@ fn types_and_constness_of_rattle() {
         ("base: usize", "base: u64"),
         // Of the error sum and of the full search; functions that are not exported have a sum too.
         ("src_uv_stride: usize,\n    sum: &mut u64", "src_uv_stride: usize,\n    sum: &mut u32"),
-        ("sharpness: &mut u8,\n    sum: &mut u64", "sharpness: &mut u8,\n    sum: &mut usize"),
+        (
+            "scratch_v: &mut [u8],\n    level: &mut u8,\n    sharpness: &mut u8,\n    sum: &mut u64",
+            "scratch_v: &mut [u8],\n    level: &mut u8,\n    sharpness: &mut u8,\n    sum: &mut usize",
+        ),
     ] {
         part_is_caught(|texts| &mut texts.rattle, from, to);
     }

@@ -1,16 +1,22 @@
--- One plane of a macroblock, its edges in document 01's order, from the index `corner` of its square's first sample: what the private functions on one plane promise.
-use Rattle.std.specs.Prelude.{Bool, cond, ◌≡◌, List, ℕ, ◌+◌, ◌-◌, ◌*◌, ◌≤◌, ◌<◌, ltb}
-use Rattle.kernels.specs.Segment.{Kernel}
+-- One plane of a macroblock, its edges in document 01's order: what the private functions on one plane promise.
+use Rattle.std.specs.Prelude.{Bool, cond, ◌≡◌, List, ℕ, ◌+◌, ◌-◌, ◌*◌, ◌/◌, ◌≤◌, ◌<◌, ltb}
+use Rattle.kernels.specs.Segment.{Kernel, half}
+use Rattle.planes.specs.Steps.{steps}
 use Rattle.planes.specs.Edges.{Direction, vertical, horizontal}
 use Rattle.planes.specs.Private.Worked.{Worked}
 use Rattle.edges.specs.EdgeFrom.{edge_from, smoothed_from}
+use Rattle.frame.specs.declared.plane.Square.{Square}
 
--- the square, in a plane of `length` samples, and what lies left of it and above it
-pub record Square (side stride corner row column length : ℕ) : Type 0 where
-  pub inside : corner + (side - 1) * stride + side ≤ length
-  pub left : 0 < column → 4 ≤ corner
-  pub above : 0 < row → 4 * stride ≤ corner
-  pub wide : side ≤ stride
+-- the square of a macroblock in a plane of squares of `side` samples
+abbrev pub square_at : (side stride row column : ℕ) → Square
+square_at side stride row column = record { stride = stride; corner = side * row * stride + side * column; row = row; column = column }
+
+-- it lies among `length` samples, as does what is left of it and above it
+pub record Inside (side : ℕ) (q : Square) (length : ℕ) : Type 0 where
+  pub within : q.corner + (side - 1) * q.stride + side ≤ length
+  pub left : 0 < q.column → 4 ≤ q.corner
+  pub above : 0 < q.row → 4 * q.stride ≤ q.corner
+  pub wide : side ≤ q.stride
 
 -- an edge from the index of its first tap, with how many of its positions are smoothed
 unfoldable pub along : Direction → Kernel → (stride base length : ℕ) → Worked → Worked
@@ -21,39 +27,25 @@ pub record Did (most : ℕ) (f : Worked → Worked) (before after : List ℕ) (r
   pub few : r ≤ most
   pub worked : (n : ℕ) → record { samples = after; smoothed = n + r } ≡ f (record { samples = before; smoothed = n })
 
--- `half` taps lie on each side of an edge
+-- ---- the edges of a plane, each from its first tap
 
-unfoldable pub left_from : Kernel → (half side stride corner column : ℕ) → Worked → Worked
-left_from k half side s corner column l = cond (ltb 0 column) (along vertical k s (corner - half) side l) l
+unfoldable pub left_from : Kernel → (side : ℕ) → Square → Worked → Worked
+left_from k side q l = cond (ltb 0 q.column) (along vertical k q.stride (q.corner - half k) side l) l
 
-unfoldable pub top_from : Kernel → (half side stride corner row : ℕ) → Worked → Worked
-top_from k half side s corner row l = cond (ltb 0 row) (along horizontal k s (corner - half * s) side l) l
+unfoldable pub top_from : Kernel → (side : ℕ) → Square → Worked → Worked
+top_from k side q l = cond (ltb 0 q.row) (along horizontal k q.stride (q.corner - half k * q.stride) side l) l
 
--- the inner edges of a luma square, from the first tap of the first
-unfoldable pub three_vertical : Kernel → (stride first : ℕ) → Worked → Worked
-three_vertical k s a l = along vertical k s (a + 8) 16 (along vertical k s (a + 4) 16 (along vertical k s a 16 l))
+-- inner edge n lies 4 * n samples into the square
+abbrev pub inner_at : Direction → Kernel → (side : ℕ) → Square → (n : ℕ) → Worked → Worked
+inner_at vertical k side q n = along vertical k q.stride (q.corner + (4 * n - half k)) side
+inner_at horizontal k side q n = along horizontal k q.stride (q.corner + (4 * n - half k) * q.stride) side
 
-unfoldable pub three_horizontal : Kernel → (stride first : ℕ) → Worked → Worked
-three_horizontal k s a l = along horizontal k s (a + 8 * s) 16 (along horizontal k s (a + 4 * s) 16 (along horizontal k s a 16 l))
+unfoldable pub inner_from : Direction → Kernel → (inside : Bool) (side : ℕ) → Square → Worked → Worked
+inner_from d k inside side q l = cond inside (steps (inner_at d k side q) 1 (side / 4 - 1) l) l
 
--- a luma plane: `first` and `first_below` are the first taps of the first inner edges
-unfoldable pub luma_from : (outer inner : Kernel) (inside : Bool) (half stride corner first first_below row column : ℕ) → Worked → Worked
-luma_from outer inner inside half s corner first below row column l =
-    inner-horizontal (top_from outer half 16 s corner row (inner-vertical (left_from outer half 16 s corner column l)))
-  where
-    inner-vertical : Worked → Worked
-    inner-vertical m = cond inside (three_vertical inner s first m) m
+unfoldable pub plane_from : (outer inner : Kernel) (inside : Bool) (side : ℕ) → Square → Worked → Worked
+plane_from outer inner inside side q l = inner_from horizontal inner inside side q (top_from outer side q (inner_from vertical inner inside side q (left_from outer side q l)))
 
-    inner-horizontal : Worked → Worked
-    inner-horizontal m = cond inside (three_horizontal inner s below m) m
-
--- a chroma plane, which has one inner edge in each direction
-unfoldable pub chroma_from : (outer inner : Kernel) (inside : Bool) (stride corner row column : ℕ) → Worked → Worked
-chroma_from outer inner inside s corner row column l =
-    inner-horizontal (top_from outer 4 8 s corner row (inner-vertical (left_from outer 4 8 s corner column l)))
-  where
-    inner-vertical : Worked → Worked
-    inner-vertical m = cond inside (along vertical inner s corner 8 m) m
-
-    inner-horizontal : Worked → Worked
-    inner-horizontal m = cond inside (along horizontal inner s corner 8 m) m
+-- how many positions these are, at most
+abbrev pub positions_of : (side : ℕ) → ℕ
+positions_of side = side + side * (side / 4 - 1) + side + side * (side / 4 - 1)

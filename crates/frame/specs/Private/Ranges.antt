@@ -1,10 +1,9 @@
 -- What the private functions that filter macroblocks ask of their callers. Where a call has a macroblock to do, document 01's 1, 2, 3 and 5 leave nothing else.
-use Rattle.std.specs.Prelude.{◌≡◌, List, ℕ, ◌+◌, ◌-◌, ◌≤◌, ◌<◌, length}
+use Rattle.std.specs.Prelude.{◌≡◌, List, ℕ, ◌-◌, ◌≤◌, ◌<◌}
 use Rattle.planes.specs.Steps.{steps, tally}
 use Rattle.planes.specs.Planes.{Planes, StridesHold, PlanesHold, macroblocks}
 use Rattle.planes.specs.Macroblock.{Plan, filter_macroblock}
 use Rattle.planes.specs.Smoothed.{macroblock_smoothed}
-use Rattle.calls.specs.Entries.{KeyLists, InterLists}
 use Rattle.planes.specs.Layout.{grid_of, planes_of}
 use Rattle.planes.specs.declared.layout.PlaneLayout.{PlaneLayout}
 
@@ -23,30 +22,10 @@ pub record Range (layout : PlaneLayout) (p : Planes) (from to : ℕ) : Type 0 wh
   pub within : to ≤ macroblocks (grid_of layout)
   pub sound : from < to → Sound layout p.y p.u p.v
 
--- and each has its entry
-pub record KeyRange (layout : PlaneLayout) (p : Planes) (l : KeyLists) (from to : ℕ) : Type 0 where
-  pub range : Range layout p from to
-  pub modes : to ≤ length l.modes
-  pub segments : to ≤ length l.segments
-  pub flags : to ≤ length l.flags
-
-pub record InterRange (layout : PlaneLayout) (p : Planes) (l : InterLists) (from to : ℕ) : Type 0 where
-  pub range : Range layout p from to
-  pub modes : to ≤ length l.modes
-  pub segments : to ≤ length l.segments
-  pub flags : to ≤ length l.flags
-  pub references : to ≤ length l.references
-  pub inter_modes : to ≤ length l.inter_modes
-
 -- the step of macroblock m under a plan: the planes that it left, and r positions smoothed
 pub record Stepped (layout : PlaneLayout) (plan : Plan) (m : ℕ) (before after : Planes) (r : ℕ) : Type 0 where
   pub planes : after ≡ filter_macroblock (grid_of layout) (λ _. plan) m before
   pub smoothed : r ≡ macroblock_smoothed (grid_of layout) (λ _. plan) m before
-
--- the same, added to the total so far
-pub record SteppedOn (layout : PlaneLayout) (plan : Plan) (m : ℕ) (before after : Planes) (so_far r : ℕ) : Type 0 where
-  pub planes : after ≡ filter_macroblock (grid_of layout) (λ _. plan) m before
-  pub smoothed : r ≡ so_far + macroblock_smoothed (grid_of layout) (λ _. plan) m before
 
 -- steps `from` to `to` - 1 of a pass
 pub record Ranged (f : ℕ → Planes → Planes) (counted : ℕ → Planes → ℕ) (from to : ℕ) (before after : Planes) (r : ℕ) : Type 0 where

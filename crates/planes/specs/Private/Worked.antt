@@ -1,6 +1,6 @@
 -- A plane whose samples some edges have changed, with how many of their positions were smoothed.
 use Rattle.std.specs.Prelude.{List, ℕ, ◌+◌}
-use Rattle.planes.specs.Planes.{Plane, luma, chroma_u, chroma_v, Planes, Grid}
+use Rattle.planes.specs.Planes.{Planes, Grid}
 use Rattle.planes.specs.Edges.{Edge, filter_edge}
 use Rattle.planes.specs.Smoothed.{edge_smoothed}
 

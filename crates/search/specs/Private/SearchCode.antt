@@ -1,15 +1,12 @@
 -- What the private functions of the search promise. `proofs/TrialLaws.antt` joins it to `specs/Candidates.antt`.
-use Rattle.std.specs.Prelude.{◌≡◌, false, cond, not, ◌||◌, ℕ, ◌+◌, ◌-◌, ◌*◌, eqb, ltb}
+use Rattle.std.specs.Prelude.{◌≡◌, Option, Some, None, cond, not, ◌||◌, ℕ, ◌+◌, ◌-◌, ◌*◌, eqb, ltb}
 use Rattle.planes.specs.Planes.{Planes}
 use Rattle.planes.specs.Steps.{steps}
 use Rattle.calls.specs.Pass.{Pass}
-use Rattle.sums.specs.declared.answers.SearchRefusal.TheVariants.{TooLarge, BadStrides, ShortPlane, BadEntry, SourceTooLarge, BadSource, SumTooLarge}
 use Rattle.scratch.specs.Copies.{copy_grid}
 use Rattle.scratch.specs.Private.Alike.{Alike}
 use Rattle.search.specs.Candidates.{Candidate, near}
 use Rattle.search.specs.Search.{SearchCall, planes_of_candidate, score, search, Choice, choice}
-use Rattle.search.specs.declared.refusal.Judged.{Judged}
-use Rattle.search.specs.declared.refusal.Judged.TheVariants.{Refused, Accepted}
 use Rattle.search.specs.declared.trials.Best.{Best}
 use Rattle.search.specs.declared.trials.Trial.{Trial}
 
@@ -18,11 +15,18 @@ use Rattle.search.specs.declared.trials.Trial.{Trial}
 abbrev pub coarse_at : ℕ → ℕ
 coarse_at i = cond (ltb i 15) (4 * i + 4) 63
 
-unfoldable pub trial_of : (base i : ℕ) → Best → Trial
+-- a level near the winner, but the best of the moment
+unfoldable pub near_trial : (base level : ℕ) → Best → Option Trial
+near_trial base l f = cond (not (near f.«winner» l) || eqb l f.«level») None (Some (record { «level» = l; «sharpness» = base }))
+
+-- another sharpness of the best level, unless that is 0
+unfoldable pub sharpness_trial : (base sharpness : ℕ) → Best → Option Trial
+sharpness_trial base k f = cond (eqb f.«level» 0 || eqb k base) None (Some (record { «level» = f.«level»; «sharpness» = k }))
+
+unfoldable pub trial_of : (base i : ℕ) → Best → Option Trial
 trial_of base i f =
-    cond (ltb i 16) (record { «level» = coarse_at i; «sharpness» = base; «skip» = false })
-    (cond (ltb i 80) (record { «level» = i - 16; «sharpness» = base; «skip» = not (near f.«winner» (i - 16)) || eqb (i - 16) f.«level» })
-    (record { «level» = f.«level»; «sharpness» = i - 80; «skip» = eqb f.«level» 0 || eqb (i - 80) base }))
+    cond (ltb i 16) (Some (record { «level» = coarse_at i; «sharpness» = base }))
+    (cond (ltb i 80) (near_trial base (i - 16) f) (sharpness_trial base (i - 80) f))
 
 unfoldable pub taken : Best → (level sharpness sum : ℕ) → Best
 taken f l s n =
@@ -35,9 +39,9 @@ unfoldable pub with_winner : (i : ℕ) → Best → Best
 with_winner i f =
     cond (ltb i 16) (record { «level» = f.«level»; «sharpness» = f.«sharpness»; «sum» = f.«sum»; «count» = f.«count»; «winner» = f.«level» }) f
 
-unfoldable pub tried : (score : Candidate → ℕ) → Trial → Best → Best
-tried score t f =
-    cond t.«skip» f (taken f t.«level» t.«sharpness» (score (record { level = t.«level»; sharpness = t.«sharpness» })))
+unfoldable pub tried : (score : Candidate → ℕ) → Option Trial → Best → Best
+tried score None f = f
+tried score (Some t) f = taken f t.«level» t.«sharpness» (score (record { level = t.«level»; sharpness = t.«sharpness» }))
 
 unfoldable pub after_trial : (score : Candidate → ℕ) → (base i : ℕ) → Best → Best
 after_trial score base i f = with_winner i (tried score (trial_of base i f) f)
@@ -45,23 +49,9 @@ after_trial score base i f = with_winner i (tried score (trial_of base i f) f)
 abbrev pub start_at : (base sum : ℕ) → Best
 start_at base sum = record { «level» = 0; «sharpness» = base; «sum» = sum; «count» = 0; «winner» = 0 }
 
-pub record Tried (W : Pass) (a : SearchCall W) (t : Trial) (before r : Best) (after : Planes) : Type 0 where
+pub record Tried (W : Pass) (a : SearchCall W) (t : Option Trial) (before r : Best) (after : Planes) : Type 0 where
   pub best : r ≡ tried (score W a) t before
   pub scratch : Alike a.grid a.scratch after
-
--- ---- what two answers decide: that of a pass over the scratch planes with allowance 0, and that of the unfiltered sum, each by its number
-
-unfoldable pub judged_of : (pass sum : ℕ) → Judged
-judged_of pass sum =
-    cond (eqb sum 1) (Refused TooLarge)
-    (cond (eqb sum 2) (Refused BadStrides)
-    (cond (eqb sum 3) (Refused ShortPlane)
-    (cond (eqb pass 3) (Refused ShortPlane)
-    (cond (eqb sum 8) (Refused SourceTooLarge)
-    (cond (eqb sum 9) (Refused BadSource)
-    (cond (eqb pass 6) (Refused BadEntry)
-    (cond (eqb sum 10) (Refused SumTooLarge)
-    Accepted)))))))
 
 -- ---- a whole search
 

@@ -7,7 +7,7 @@ use Rattle.scratch.specs.Private.Alike.{Alike}
 use Rattle.search.specs.Candidates.{Standing}
 use Rattle.search.specs.Search.{SearchCall, planes_of_candidate, score}
 use Rattle.stills.specs.FullSearch.{pair_at, after_pairs, full_search}
-use Rattle.stills.specs.declared.full_search.Best.{Best}
+use Rattle.stills.specs.declared.answers.Best.{Best}
 
 -- what the loop holds of a standing
 abbrev pub best_of : Standing → Best

@@ -1,60 +1,45 @@
-use mathlib.Core.Path.{◌≡◌, ap, ◌∙◌}
+use mathlib.Core.Path.{◌≡◌, refl, ap, ◌∙◌}
 use mathlib.Core.List.{[]}
 use Prim.Native.Nat.{ℕ, ◌<◌}
 use native.Mathlib.Omega.{arith}
 use lib.ListN.{length, get_or}
-use lib.IntN.{pos}
-use Rattle.edges.proofs.TapNumbers as N
 use Rattle.kernels.specs.Segment.{simple_segment, mark}
 use Rattle.kernels.proofs.SegmentLaws.{mark-most}
-use Rattle.edges.specs.declared.run.EdgeTaps.{EdgeTaps}
-use Rattle.edges.specs.Private.Runs.{simple_of, SignedFour}
-use Rattle.edges.proofs.ArrayRows.{row-long}
+use Rattle.edges.specs.Private.Runs.{four_at, edge_taps, simple_passes}
+use Rattle.edges.proofs.ArrayRows.{rows-many, row-long}
 use Rattle.edges.proofs.TapPositions.{simple-in}
-use Rattle.edges.proofs.RunTurns.{four-in, four-read, four-turn, four-yes, four-end, marks-none, marks-turn, marks-most}
-use Rattle.arithmetic.proofs.Tables.{fill_none, fill-turn, fill_end}
+use Rattle.edges.proofs.RunTurns.{four-in, four_none, four-turn, four_end, marks-none, marks-turn, marks-most, counts}
 use Rattle.edges.proofs.run.simple_run.Goals as goal
 
 pub loop-n-init : goal.loop-n-init
-loop-n-init c = let x = c.args in (omega arith, fill_none _ _, fill_none _ _, marks-none (simple_of x.edge_limit x.taps))
+loop-n-init g c = let x = c.args in
+    (omega arith, four_none _ _ (rows-many 4 g.row.N x.taps _ c.well_formed.0), marks-none (λ j. simple_passes x.edge_limit (four_at x.taps j)))
 
 pub simple_position-s-requires : goal.simple_position-s-requires
-simple_position-s-requires c =
-    let taps : SignedFour (get_or (get_or c.args.taps 0 []) c.loop-n.n (pos 0)) (get_or (get_or c.args.taps 1 []) c.loop-n.n (pos 0)) (get_or (get_or c.args.taps 2 []) c.loop-n.n (pos 0)) (get_or (get_or c.args.taps 3 []) c.loop-n.n (pos 0)) = four-in 16 c.args.taps c.requires c.loop-n.n c.loop-n-test.true in
-    four-read taps
+simple_position-s-requires g c = rw c.four_at-position.ensures (four-in g.row.N c.args.taps c.loop-n.n c.loop-n-test.true c.requires)
 
-pub edge_yes-requires : goal.edge_yes-requires
-edge_yes-requires c =
-    let taps : SignedFour (get_or (get_or c.args.taps 0 []) c.loop-n.n (pos 0)) (get_or (get_or c.args.taps 1 []) c.loop-n.n (pos 0)) (get_or (get_or c.args.taps 2 []) c.loop-n.n (pos 0)) (get_or (get_or c.args.taps 3 []) c.loop-n.n (pos 0)) = four-in 16 c.args.taps c.requires c.loop-n.n c.loop-n-test.true in
-    four-read taps
+pub simple_passes-requires : goal.simple_passes-requires
+simple_passes-requires g c = rw c.four_at-position.ensures (four-in g.row.N c.args.taps c.loop-n.n c.loop-n-test.true c.requires)
 
 pub overflow_add-marks : goal.overflow_add-marks
-overflow_add-marks c =
-    let x = c.args in
-    omega (arith, c.loop-n-test.true, c.loop-n.invariant.3, marks-most (simple_of x.edge_limit x.taps) c.loop-n.n, c.one_if-marks.ensures, mark-most c.edge_yes.result)
+overflow_add-marks g c =
+    omega (arith, c.loop-n.invariant.2, marks-most (λ j. simple_passes c.args.edge_limit (four_at c.args.taps j)) c.loop-n.n, c.from-marks.ensures, counts c.simple_passes.result, mark-most c.simple_passes.result, g.bound-1.counted)
 
 pub loop-n-preserved : goal.loop-n-preserved
-loop-n-preserved c =
-    let long : (k : ℕ) → k < 4 → length (get_or c.args.taps k []) ≡ 16 = row-long 4 16 c.args.taps _ c.well_formed.0 in
-    let taps : SignedFour (get_or (get_or c.args.taps 0 []) c.loop-n.n (pos 0)) (get_or (get_or c.args.taps 1 []) c.loop-n.n (pos 0)) (get_or (get_or c.args.taps 2 []) c.loop-n.n (pos 0)) (get_or (get_or c.args.taps 3 []) c.loop-n.n (pos 0)) = four-in 16 c.args.taps c.requires c.loop-n.n c.loop-n-test.true in
-    let p = c.simple_position-s in
-    let t = c.args.taps in
-    let n = c.loop-n.n in
-    let s = taps in
+loop-n-preserved g c =
+    let long : (k : ℕ) → k < 4 → length (get_or c.args.taps k []) ≡ g.row.N = row-long 4 g.row.N c.args.taps _ c.well_formed.0 in
     let limit = c.args.edge_limit in
-    let e = four-turn s (simple_segment limit) p.result p.ensures in
-    let two = simple-in limit _ _ _ _ s in
-    let h : n < 16 = omega (arith, c.loop-n-test.true) in (
-      omega arith,
-      fill-turn n _ (get_or t 1 []) c.loop-n.o1 _ c.loop-n.invariant.1 (omega (arith, long 1 (omega arith))) (N.known {A = 128} tt (ap (λ (x : EdgeTaps). x.p0) e) two.p0-in).val,
-      fill-turn n _ (get_or t 2 []) c.loop-n.o2 _ c.loop-n.invariant.2 (omega (arith, long 2 (omega arith))) (N.known {A = 128} tt (ap (λ (x : EdgeTaps). x.q0) e) two.q0-in).val,
-      marks-turn (simple_of limit t) n c.loop-n.marks c.one_if-marks.result c.loop-n.invariant.3 (c.one_if-marks.ensures ∙ ap mark (four-yes s limit c.edge_yes.result c.edge_yes.ensures)),
+    let n = c.loop-n.n in
+    let s = c.simple_position-s.ensures ∙ ap (edge_taps (simple_segment limit)) c.four_at-position.ensures in (
+      omega (arith, c.loop-n-test.true),
+      four-turn (simple_segment limit) g.row.N n c.args.taps c.loop-n.rows _ c.simple_position-s.result long c.loop-n-test.true c.loop-n.invariant.1 s
+          (rw s (simple-in limit _ (four-in g.row.N c.args.taps n c.loop-n-test.true c.requires))) refl,
+      marks-turn (λ j. simple_passes limit (four_at c.args.taps j)) n c.loop-n.marks c.from-marks.result c.loop-n.invariant.2
+          (c.from-marks.ensures ∙ counts c.simple_passes.result ∙ ap mark (c.simple_passes.ensures ∙ ap (simple_passes limit) c.four_at-position.ensures)),
     )
 
 pub returns-clause-value : goal.returns-clause-value
-returns-clause-value c =
-    let long : (k : ℕ) → k < 4 → length (get_or c.args.taps k []) ≡ 16 = row-long 4 16 c.args.taps _ c.well_formed.0 in
-    let e : c.loop-n.n ≡ 16 = omega arith in
-    four-end (simple_segment c.args.edge_limit) 16 c.args.taps _ _
-    (fill_end c.loop-n.n 16 _ (get_or c.args.taps 1 []) c.loop-n.o1 c.loop-n.invariant.1 (omega arith) (long 1 (omega arith)))
-    (fill_end c.loop-n.n 16 _ (get_or c.args.taps 2 []) c.loop-n.o2 c.loop-n.invariant.2 (omega arith) (long 2 (omega arith)))
+returns-clause-value g c =
+    let long : (k : ℕ) → k < 4 → length (get_or c.args.taps k []) ≡ g.row.N = row-long 4 g.row.N c.args.taps _ c.well_formed.0 in
+    let e : c.loop-n.n ≡ g.row.N = omega arith in
+    four_end (simple_segment c.args.edge_limit) g.row.N c.loop-n.n c.args.taps c.loop-n.rows long e c.loop-n.invariant.1

@@ -1,25 +1,37 @@
-use Rattle.planes.specs.Layout.{planes_of}
-use Rattle.calls.specs.Pass.{key_pass}
-use Rattle.calls.specs.PassCalls.{key_call, key_lists}
-use Rattle.frame.proofs.Passes.{key_meets, key-range, ends}
-use Rattle.judge.proofs.Judgement.{Meets}
+use Rattle.std.proofs.Common.{◌≡◌, Err, rules}
+use Rattle.planes.specs.Pictures.{planes_lent}
+use Rattle.frame.proofs.Passes.{refused, batched, range_of, listed_of}
 use Rattle.frame.proofs.pass.filter_frame.Goals as goal
 
-pub filter_key_range-smoothed-requires : goal.filter_key_range-smoothed-requires
-filter_key_range-smoothed-requires c =
-    let meets : let a = c.args in
-    Meets key_pass (key_call (planes_of a.y.now a.u.now a.v.now) a.layout (key_lists a.modes.now a.segments.now a.flags.now) a.config a.start a.allowance) c.judge_call-batch.result = let a = c.args in
-    key_meets a.layout (planes_of a.y.now a.u.now a.v.now) a.config a.start a.allowance c.judge_call-batch.result
-    (key_lists a.modes.now a.segments.now a.flags.now) _ _ c.equal_lengths3-alike.ensures c.any_above-bad.ensures c.judge_call-batch.ensures in
+pub returns-in_err-batch-clause-passed : goal.returns-in_err-batch-clause-passed
+returns-in_err-batch-clause-passed g c =
     let a = c.args in
-    key-range a.layout (planes_of a.y.now a.u.now a.v.now) a.config a.start a.allowance c.judge_call-batch.result (key_lists a.modes.now a.segments.now a.flags.now) meets
+    let n = c.lengths-lengths.ensures in
+    let told : c.from_residual.result ≡ Err c.in_err-batch.field-0.0 = search rules in
+    refused g.E.Entries.pass a.layout (g.E.Entries.carried a.entries) a.config (planes_lent a.picture.now) a.start a.allowance _ _ _ _ n.y_length n.u_length n.v_length
+    c.judge_call.ensures _ _ c.in_err-batch.was told
 
-pub returns : goal.returns
-returns c =
-    let meets : let a = c.args in
-    Meets key_pass (key_call (planes_of a.y.now a.u.now a.v.now) a.layout (key_lists a.modes.now a.segments.now a.flags.now) a.config a.start a.allowance) c.judge_call-batch.result = let a = c.args in
-    key_meets a.layout (planes_of a.y.now a.u.now a.v.now) a.config a.start a.allowance c.judge_call-batch.result
-    (key_lists a.modes.now a.segments.now a.flags.now) _ _ c.equal_lengths3-alike.ensures c.any_above-bad.ensures c.judge_call-batch.ensures in
-    let r = c.filter_key_range-smoothed.ensures in
-    ends meets (planes_of c.filter_key_range-smoothed.new.y c.filter_key_range-smoothed.new.u c.filter_key_range-smoothed.new.v) c.filter_key_range-smoothed.result c.counted.result
-    r.planes r.smoothed c.counted.ensures
+pub filter_range-smoothed-requires-clause-range : goal.filter_range-smoothed-requires-clause-range
+filter_range-smoothed-requires-clause-range g c =
+    let a = c.args in
+    let n = c.lengths-lengths.ensures in
+    range_of g.E.Entries.pass a.layout (g.E.Entries.carried a.entries) a.config (planes_lent a.picture.now) a.start a.allowance _
+    (batched g.E.Entries.pass a.layout (g.E.Entries.carried a.entries) a.config (planes_lent a.picture.now) a.start a.allowance _ _ _ _ n.y_length n.u_length n.v_length
+    c.judge_call.ensures _ c.in_ok-batch.was)
+
+pub filter_range-smoothed-requires-clause-listed : goal.filter_range-smoothed-requires-clause-listed
+filter_range-smoothed-requires-clause-listed g c =
+    let a = c.args in
+    let n = c.lengths-lengths.ensures in
+    listed_of g.E.Entries.pass a.layout (g.E.Entries.carried a.entries) a.config (planes_lent a.picture.now) a.start a.allowance _
+    (batched g.E.Entries.pass a.layout (g.E.Entries.carried a.entries) a.config (planes_lent a.picture.now) a.start a.allowance _ _ _ _ n.y_length n.u_length n.v_length
+    c.judge_call.ensures _ c.in_ok-batch.was)
+
+pub returns-clause-passed : goal.returns-clause-passed
+returns-clause-passed g c =
+    let a = c.args in
+    let n = c.lengths-lengths.ensures in
+    let met = batched g.E.Entries.pass a.layout (g.E.Entries.carried a.entries) a.config (planes_lent a.picture.now) a.start a.allowance _ _ _ _ n.y_length n.u_length n.v_length
+    c.judge_call.ensures _ c.in_ok-batch.was in
+    let r = c.filter_range-smoothed.ensures.ranged in
+    met.done c.filter_range-smoothed.result (planes_lent c.filter_range-smoothed.new.picture) r.smoothed r.planes

@@ -20,12 +20,6 @@ loop-i-preserved c =
     let turn = fill-turn i interior_byte x.into.now _ _ c.loop-i.invariant.1 (omega arith) right in
     (omega arith, turn, length-set c.loop-i.into i _ ∙ c.loop-i.invariant.2)
 
-pub returns-clause-value : goal.returns-clause-value
-unfolding bytes_taken with_bytes
-returns-clause-value c =
-    let all : c.loop-i.i ≡ min (length c.args.into.now) 512 = omega arith in
-    c.lesser-n.ensures
-
 pub returns-clause-into_after : goal.returns-clause-into_after
 unfolding bytes_taken with_bytes
 returns-clause-into_after c =

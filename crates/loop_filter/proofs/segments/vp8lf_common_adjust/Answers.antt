@@ -7,17 +7,16 @@ use Rattle.loop_filter.specs.Returned.{out_of}
 use Rattle.loop_filter.proofs.Returns.{returned}
 use Rattle.loop_filter.proofs.segments.vp8lf_common_adjust.Goals as goal
 
-pub returns-in-AdjustedBy-clause-returned : goal.returns-in-AdjustedBy-clause-returned
-unfolding number_of adjust_outcome out_of
-returns-in-AdjustedBy-clause-returned c =
+pub returns-in-Ok-clause-returned : goal.returns-in-Ok-clause-returned
+unfolding number_of out_of
+returns-in-Ok-clause-returned c =
     let k = c.common_adjust in
-    let e = sym (ap adjust_outcome c.in-AdjustedBy.is) ∙ k.ensures.result_value in
-    returned e (record { number = refl; out = (R.held {w = w32} {z = c.in-AdjustedBy.a} (record { sfits = c.in-AdjustedBy.known_told-1-own.given.0.1 })).val })
+    let e = sym (ap adjust_outcome c.in-Ok.is) ∙ k.ensures.result_value in
+    returned e (record { number = refl; out = (R.held {w = w32} {z = c.in-Ok.a} (record { sfits = c.in-Ok.known_told-1-own.given.0.1 })).val })
 
-pub returns-in-NoWindowToAdjust-clause-returned : goal.returns-in-NoWindowToAdjust-clause-returned
-unfolding number_of adjust_outcome out_of
-returns-in-NoWindowToAdjust-clause-returned c =
+pub returns-in-Err-clause-returned : goal.returns-in-Err-clause-returned
+unfolding number_of out_of
+returns-in-Err-clause-returned c =
     let k = c.common_adjust in
-    let out = c.args.adjustment in
-    let e = sym (ap adjust_outcome c.in-NoWindowToAdjust.is) ∙ k.ensures.result_value in
-    returned e (record { number = refl; out = refl })
+    let e = sym (ap adjust_outcome c.in-Err.is) ∙ k.ensures.result_value in
+    returned e (record { number = c.from.ensures; out = refl })

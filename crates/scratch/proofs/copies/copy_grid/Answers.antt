@@ -1,28 +1,63 @@
-use Prim.Native.Nat.{ℕ}
-use mathlib.Core.Path.{◌≡◌, sym, ◌∙◌}
-use Rattle.planes.specs.GridRefusals.{past_grid}
-use Rattle.planes.specs.Layout.{grid_of, planes_of}
-use Rattle.scratch.proofs.CopyLaws.{scratch-by-lengths, both-pass, copied, not-copied}
+use Rattle.std.proofs.Common.{◌≡◌, sym, ◌∙◌, Err, rules}
+use Rattle.arithmetic.specs.Outcome.{number_of}
+use Rattle.planes.specs.Pictures.{planes_in, planes_lent}
+use Rattle.planes.proofs.PastGrid.{grid-passes}
+use Rattle.scratch.proofs.CopyLaws.{judged-stops, judged-refuses, judged-passes, not-copied, copied}
 use Rattle.scratch.proofs.copies.copy_grid.Goals as goal
 
-pub returns-then-refusal-ne0 : goal.returns-then-refusal-ne0
-returns-then-refusal-ne0 c =
-    let refusal_is : ◌≡◌ {A = ℕ} c.scratch_refusal-refusal.result
-    (past_grid (grid_of c.args.layout) (planes_of c.args.y.now c.args.u.now c.args.v.now)
-    (past_grid (grid_of c.args.layout) (planes_of c.args.scratch_y.now c.args.scratch_u.now c.args.scratch_v.now) 0)) = c.scratch_refusal-refusal.ensures ∙ scratch-by-lengths _ _ _ in
-    not-copied _ _ _ (λ z. c.if-refusal-ne0.true (refusal_is ∙ z))
+-- the planes are refused
+pub returns-in_err-judge-clause-number : goal.returns-in_err-judge-clause-number
+returns-in_err-judge-clause-number c =
+    let l = c.lengths-lent.ensures in
+    let e : c.from_residual.result ≡ Err c.in_err-judge.field-0.0 = search rules in
+    judged-stops _ (planes_in c.args.picture) _ _ _ l.y_length l.u_length l.v_length _ c.judge.ensures.number _ _ _ c.in_err-judge.was e
 
+pub returns-in_err-judge-clause-copied : goal.returns-in_err-judge-clause-copied
+returns-in_err-judge-clause-copied c =
+    let l = c.lengths-lent.ensures in
+    not-copied _ (planes_in c.args.picture) _ (judged-refuses _ _ _ _ _ l.y_length l.u_length l.v_length _ c.judge.ensures.number _ _ c.in_err-judge.was)
+
+-- the planes pass
+pub returns-in_err-judge-2-clause-number : goal.returns-in_err-judge-2-clause-number
+returns-in_err-judge-2-clause-number c =
+    let l = c.lengths-lent.ensures in
+    let h = c.lengths-held.ensures in
+    let e : c.from_residual-in_err-judge-2.result ≡ Err c.in_err-judge-2.field-0.0 = search rules in
+    let p = judged-passes _ (planes_in c.args.picture) _ _ _ l.y_length l.u_length l.v_length _ c.judge.ensures.number c.in_ok-judge.was in
+    judged-stops _ (planes_lent c.args.scratch.now) _ _ _ h.y_length h.u_length h.v_length _ c.judge-2.ensures.number 0 _ _ c.in_err-judge-2.was e
+    ∙ sym (grid-passes _ _ _ p)
+
+pub returns-in_err-judge-2-clause-copied : goal.returns-in_err-judge-2-clause-copied
+returns-in_err-judge-2-clause-copied c =
+    let l = c.lengths-lent.ensures in
+    let h = c.lengths-held.ensures in
+    let p = judged-passes _ (planes_in c.args.picture) _ _ _ l.y_length l.u_length l.v_length _ c.judge.ensures.number c.in_ok-judge.was in
+    not-copied _ (planes_in c.args.picture) _
+    (λ z. judged-refuses _ (planes_lent c.args.scratch.now) _ _ _ h.y_length h.u_length h.v_length _ c.judge-2.ensures.number 0 _ c.in_err-judge-2.was (sym (grid-passes _ _ _ p) ∙ z))
+
+-- both pass
 pub copy_planes-requires : goal.copy_planes-requires
 copy_planes-requires c =
-    let refusal_is : ◌≡◌ {A = ℕ} c.scratch_refusal-refusal.result
-    (past_grid (grid_of c.args.layout) (planes_of c.args.y.now c.args.u.now c.args.v.now)
-    (past_grid (grid_of c.args.layout) (planes_of c.args.scratch_y.now c.args.scratch_u.now c.args.scratch_v.now) 0)) = c.scratch_refusal-refusal.ensures ∙ scratch-by-lengths _ _ _ in
-    both-pass _ _ _ (sym refusal_is ∙ c.if-refusal-ne0.false)
+    let l = c.lengths-lent.ensures in
+    let h = c.lengths-held.ensures in
+    record {
+      lent = judged-passes _ (planes_in c.args.picture) _ _ _ l.y_length l.u_length l.v_length _ c.judge.ensures.number c.in_ok-judge.was;
+      scratch = judged-passes _ (planes_lent c.args.scratch.now) _ _ _ h.y_length h.u_length h.v_length _ c.judge-2.ensures.number c.in_ok-judge-2.was;
+    }
 
-pub returns : goal.returns
-returns c =
-    let refusal_is : ◌≡◌ {A = ℕ} c.scratch_refusal-refusal.result
-    (past_grid (grid_of c.args.layout) (planes_of c.args.y.now c.args.u.now c.args.v.now)
-    (past_grid (grid_of c.args.layout) (planes_of c.args.scratch_y.now c.args.scratch_u.now c.args.scratch_v.now) 0)) = c.scratch_refusal-refusal.ensures ∙ scratch-by-lengths _ _ _ in
-    let (p, t) = both-pass _ _ _ (sym refusal_is ∙ c.if-refusal-ne0.false) in
-    c.copy_planes.ensures ∙ sym (copied _ _ _ p t)
+pub returns-clause-number : goal.returns-clause-number
+unfolding number_of
+returns-clause-number c =
+    let l = c.lengths-lent.ensures in
+    let h = c.lengths-held.ensures in
+    let p = judged-passes _ (planes_in c.args.picture) _ _ _ l.y_length l.u_length l.v_length _ c.judge.ensures.number c.in_ok-judge.was in
+    let t = judged-passes _ (planes_lent c.args.scratch.now) _ _ _ h.y_length h.u_length h.v_length _ c.judge-2.ensures.number c.in_ok-judge-2.was in
+    sym (grid-passes _ _ _ p ∙ t)
+
+pub returns-clause-copied : goal.returns-clause-copied
+returns-clause-copied c =
+    let l = c.lengths-lent.ensures in
+    let h = c.lengths-held.ensures in
+    let p = judged-passes _ (planes_in c.args.picture) _ _ _ l.y_length l.u_length l.v_length _ c.judge.ensures.number c.in_ok-judge.was in
+    let t = judged-passes _ (planes_lent c.args.scratch.now) _ _ _ h.y_length h.u_length h.v_length _ c.judge-2.ensures.number c.in_ok-judge-2.was in
+    c.copy_planes.ensures.copied ∙ sym (copied _ _ _ p t)

@@ -1,13 +1,27 @@
-use Rattle.search.proofs.TrialLaws.{trials-none, trials-more, count-more}
+use Rattle.std.proofs.Common.{refl, ◌∙◌, arith}
+use Rattle.planes.proofs.Loans.{own_loans, loans_on}
 use Rattle.scratch.proofs.AlikeLaws.{alike_self, alike_then}
 use Rattle.search.specs.Search.{score, planes_of_candidate}
-use native.Mathlib.Omega.{arith}
-use mathlib.Core.Path.{refl}
+use Rattle.search.proofs.TrialLaws.{trials-none, trials-more, count-more}
 use Rattle.search.proofs.search.search_trials.Goals as goal
 
 pub loop-i-init : goal.loop-i-init
-loop-i-init c = (omega arith, (trials-none _ _ _, (omega arith, alike_self _ _)))
+loop-i-init g c = (omega arith, own_loans _, trials-none _ _ _, omega (arith, c.requires.count_value), alike_self _ _)
+
+pub try_candidate-next-requires : goal.try_candidate-next-requires
+try_candidate-next-requires g c =
+    let i = c.loop-i.invariant in
+    let r = c.requires.ready in
+    record { ready = record { planes = r.planes; scratch = i.4.same ∙ r.scratch; source = r.source; bytes = r.bytes; source_bytes = r.source_bytes }; count_bound = omega (arith, i.3, c.loop-i-test.true) }
 
 pub loop-i-preserved : goal.loop-i-preserved
 unfolding score planes_of_candidate
-loop-i-preserved c = (omega (arith, c.loop-i.invariant, c.loop-i-test), (trials-more _ _ _ _ _ _ _ _ _ refl c.loop-i.invariant.1.0 c.next_trial-trial.ensures c.try_candidate-next.ensures.best c.note_winner-best.ensures, (count-more _ 0 _ _ _ _ _ _ refl c.loop-i.invariant.1.1.0 c.try_candidate-next.ensures.best c.note_winner-best.ensures, alike_then _ _ _ _ c.loop-i.invariant.1.1.1 c.try_candidate-next.ensures.scratch)))
+loop-i-preserved g c =
+    let i = c.loop-i.invariant in
+    let t = c.try_candidate-next.ensures in (
+      omega (arith, c.loop-i-test.true),
+      loans_on _ _ _ i.1 t.loans,
+      trials-more _ _ _ _ _ _ _ _ _ refl i.2 c.next_trial-trial.ensures t.tried.best c.note_winner-best.ensures,
+      count-more _ 0 _ _ _ _ _ _ refl i.3 t.tried.best c.note_winner-best.ensures,
+      alike_then _ _ _ _ i.4 t.tried.scratch,
+    )

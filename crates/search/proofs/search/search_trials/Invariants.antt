@@ -1,16 +1,17 @@
-use Rattle.scratch.specs.EitherPass.{pass_of}
-use Rattle.scratch.specs.Private.Alike.{Alike}
-use Rattle.search.specs.Private.SearchCode.{after_trial}
-use Rattle.search.specs.Search.{score, setup_call}
-use Rattle.planes.specs.Layout.{grid_of, planes_of}
+use Rattle.std.proofs.Common.{◌≡◌, ◌≤◌}
+use Rattle.planes.specs.Layout.{grid_of}
+use Rattle.planes.specs.Pictures.{planes_lent, SameLoans}
 use Rattle.planes.specs.Steps.{steps}
-use Prim.Native.Nat.{◌-◌, ◌≤◌}
-use mathlib.Core.Path.{◌≡◌}
+use Rattle.scratch.specs.Private.Alike.{Alike}
+use Rattle.search.specs.Search.{score, search_of}
+use Rattle.search.specs.Private.SearchCode.{after_trial}
 use Rattle.search.proofs.search.search_trials.Given as goal
 
+-- i trials are done, in scratch planes that are the lent ones outside the grid
 abbrev pub invariant-loop-i : goal.invariant-loop-i
-invariant-loop-i l =
-    (l.i ≤ 88) × ((l.best ≡ steps (after_trial (score (pass_of l.setup.«inter») (setup_call l.setup (planes_of l.y l.u l.v) (planes_of l.initial.scratch_y l.initial.scratch_u l.initial.scratch_v) l.modes l.segments l.flags l.references l.inter_modes l.src_y l.src_u l.src_v)) l.base) 0 l.i l.initial.best) × ((l.best.«count» ≤ l.i) × Alike (grid_of l.setup.«layout») (planes_of l.initial.scratch_y l.initial.scratch_u l.initial.scratch_v) (planes_of l.scratch_y l.scratch_u l.scratch_v)))
-
-abbrev pub decreases-loop-i : goal.decreases-loop-i
-decreases-loop-i l = 88 - l.i
+invariant-loop-i g l =
+    let W = g.E.Entries.pass in
+    (l.i ≤ 88) × SameLoans l.initial.scratch l.scratch
+    × (l.best ≡ steps (after_trial (score W (search_of W (g.E.Entries.carried l.entries) l.input (planes_lent l.initial.scratch))) l.base) 0 l.i l.initial.best)
+    × (l.best.«count» ≤ l.i)
+    × Alike (grid_of l.input.«layout») (planes_lent l.initial.scratch) (planes_lent l.scratch)

@@ -1,29 +1,30 @@
-use Rattle.planes.specs.Layout.{planes_of}
-use Rattle.sums.specs.Bytes.{BytePlanes}
+use Rattle.std.proofs.Common.{ap, ◌∙◌}
+use Rattle.planes.specs.Layout.{grid_of}
+use Rattle.planes.specs.Planes.{Planes}
+use Rattle.sums.specs.SourceRecord.{source_in}
+use Rattle.sums.specs.Sums.{sum_answer}
 use Rattle.search.specs.Search.{planes_of_candidate}
-use Rattle.search.proofs.Scores.{byte-planes, made, scored-sum, scored-always}
+use Rattle.search.proofs.Scores.{made, scored-sum, scored-always}
 use Rattle.stills.specs.FullSearch.{pair_at}
 use Rattle.stills.proofs.Pairs.{pair-taken}
 use Rattle.stills.proofs.full_search.try_pair.Goals as goal
 
-pub returns-in_default : goal.returns-in_default
+pub returns-in_default-clause-tried : goal.returns-in_default-clause-tried
 unfolding planes_of_candidate
-returns-in_default c =
-    let source-bytes : BytePlanes (planes_of c.args.src_y.now c.args.src_u.now c.args.src_v.now) = byte-planes _ _ _ c.type_inv.src_y c.type_inv.src_u c.type_inv.src_v in
-    absurd (scored-always _ _ c.requires.ready _ _ c.make_candidate.ensures
-    (byte-planes _ _ _ c.slice_known-4-1.given c.slice_known-5-1.given c.slice_known-6-1.given)
-    source-bytes _ c.reconstruction_ssd.ensures c.in_default.in_default-own.keys2)
+returns-in_default-clause-tried g c =
+    absurd (scored-always _ _ c.requires.ready _ _ c.make_candidate.ensures.made _
+    (c.reconstruction_ssd.ensures ∙ ap (λ (p : Planes). sum_answer (grid_of c.args.input.«layout») p (source_in c.args.input.«source»)) c.read-made.ensures)
+    _ c.in_default.is)
 
-pub returns : goal.returns
+pub returns-clause-tried : goal.returns-clause-tried
 unfolding pair_at planes_of_candidate
-returns c =
-    let source-bytes : BytePlanes (planes_of c.args.src_y.now c.args.src_u.now c.args.src_v.now) = byte-planes _ _ _ c.type_inv.src_y c.type_inv.src_u c.type_inv.src_v in
-    let h = c.make_candidate.ensures in
+returns-clause-tried g c =
+    let h = c.make_candidate.ensures.made in
     record {
       best =
           pair-taken _ _ c.args.i _ _ _ c.take.ensures
-          (scored-sum _ _ c.requires.ready _ _ h
-          (byte-planes _ _ _ c.slice_known-4-1.given c.slice_known-5-1.given c.slice_known-6-1.given)
-          source-bytes _ c.reconstruction_ssd.ensures _ c.in-Sum.is);
+          (scored-sum _ _ c.requires.ready _ _ h _
+          (c.reconstruction_ssd.ensures ∙ ap (λ (p : Planes). sum_answer (grid_of c.args.input.«layout») p (source_in c.args.input.«source»)) c.read-made.ensures)
+          _ c.in-Ok.is);
       scratch = made _ _ c.requires.ready _ _ h;
     }

@@ -1,11 +1,6 @@
+use Rattle.std.proofs.Common.{◌≡◌, ◌+◌, ◌≤◌, ◌<◌, ◌^◌}
 use Rattle.sums.specs.Sums.{rows_sum}
-use Prim.Native.Nat.{◌+◌, ◌-◌, ◌≤◌, ◌<◌, ◌^◌}
-use mathlib.Core.Path.{◌≡◌}
 use Rattle.sums.proofs.sums.plane_sum.Given as goal
 
 abbrev pub invariant-loop-n : goal.invariant-loop-n
-invariant-loop-n l =
-    (l.n ≤ l.h) × ((l.sum < 2 ^ 64) × (l.sum ≡ l.start + rows_sum l.a l.s l.b l.t l.w l.n))
-
-abbrev pub decreases-loop-n : goal.decreases-loop-n
-decreases-loop-n l = l.h - l.n
+invariant-loop-n l = (l.n ≤ l.h) × ((l.sum < 2 ^ 64) × (l.sum ≡ l.start + rows_sum l.a l.s l.b l.t l.w l.n))

@@ -1,93 +1,28 @@
-use Prim.Native.Nat.{ℕ}
-use native.Mathlib.Omega.{arith}
-use mathlib.Core.Path.{◌≡◌, sym, ap, ◌∙◌}
-use Rattle.planes.specs.GridRefusals.{past_grid}
-use Rattle.planes.specs.Layout.{grid_of, planes_of}
-use Rattle.planes.proofs.PastGrid.{of-lengths, is-three, grid-small}
-use Rattle.sums.specs.Answers.{search_refusal_number, sum_outcome}
-use Rattle.sums.proofs.SumRefusals.{is-nine, pos_of, summable, ends-grid, ends-source, ends-sum, ends-empty, no-sample-wide, no-sample-high}
+use Rattle.std.proofs.Common.{◌≡◌, sym, ap, ◌∙◌, Err, rules}
+use Rattle.planes.specs.Layout.{grid_of}
+use Rattle.planes.specs.Pictures.{planes_in}
+use Rattle.sums.specs.Answers.{sum_outcome}
+use Rattle.sums.specs.SourceRecord.{source_in}
+use Rattle.sums.proofs.SumRefusals.{stopped_sum, passed_sum, sampled_source, none-sums, summable, ends-sum, ends-empty}
 use Rattle.sums.proofs.sums.reconstruction_ssd.Goals as goal
 
-pub returns-then-g-eq1 : goal.returns-then-g-eq1
-unfolding search_refusal_number sum_outcome
-returns-then-g-eq1 c =
-    let grid-is : ◌≡◌ {A = ℕ} c.grid_refusal-g.result
-    (past_grid (grid_of c.args.layout)
-    (planes_of c.args.y.now c.args.u.now c.args.v.now) 0) = of-lengths _ _ _ c.grid_refusal-g.ensures in
-    ends-grid _ _ _ 1 (sym c.if-g-eq1.true ∙ grid-is) (λ z. omega arith)
+pub returns-in_err-judge_sum : goal.returns-in_err-judge_sum
+returns-in_err-judge_sum c =
+    let told : c.from_residual.result ≡ Err c.in_err-judge_sum.field-0.0 = search rules in
+    stopped_sum (grid_of c.args.layout) (planes_in c.args.picture) (source_in c.args.source) _ c.judge_sum.ensures _ _ c.in_err-judge_sum.was told
 
-pub returns-then-g-eq2 : goal.returns-then-g-eq2
-unfolding search_refusal_number sum_outcome
-returns-then-g-eq2 c =
-    let grid-is : ◌≡◌ {A = ℕ} c.grid_refusal-g.result
-    (past_grid (grid_of c.args.layout)
-    (planes_of c.args.y.now c.args.u.now c.args.v.now) 0) = of-lengths _ _ _ c.grid_refusal-g.ensures in
-    ends-grid _ _ _ 2 (sym c.if-g-eq2.true ∙ grid-is) (λ z. omega arith)
-
-pub returns-then-g-ne0 : goal.returns-then-g-ne0
-unfolding search_refusal_number sum_outcome
-returns-then-g-ne0 c =
-    let grid-is : ◌≡◌ {A = ℕ} c.grid_refusal-g.result
-    (past_grid (grid_of c.args.layout)
-    (planes_of c.args.y.now c.args.u.now c.args.v.now) 0) = of-lengths _ _ _ c.grid_refusal-g.ensures in
-    let e = grid-is in
-    ends-grid _ _ _ 3 (sym (is-three _ _ _ e c.if-g-eq1.false c.if-g-eq2.false c.if-g-ne0.true) ∙ e) (λ z. omega arith)
-
-pub source_refusal-s-requires : goal.source_refusal-s-requires
-source_refusal-s-requires c =
-    let grid-is : ◌≡◌ {A = ℕ} c.grid_refusal-g.result
-    (past_grid (grid_of c.args.layout)
-    (planes_of c.args.y.now c.args.u.now c.args.v.now) 0) = of-lengths _ _ _ c.grid_refusal-g.ensures in
-    grid-small _ _ (sym grid-is ∙ c.if-g-ne0.false)
-
-pub returns-then-s-eq8 : goal.returns-then-s-eq8
-unfolding search_refusal_number sum_outcome
-returns-then-s-eq8 c =
-    let grid-is : ◌≡◌ {A = ℕ} c.grid_refusal-g.result
-    (past_grid (grid_of c.args.layout)
-    (planes_of c.args.y.now c.args.u.now c.args.v.now) 0) = of-lengths _ _ _ c.grid_refusal-g.ensures in
-    ends-source _ _ _ 8 (sym grid-is ∙ c.if-g-ne0.false) (sym c.if-s-eq8.true ∙ c.source_refusal-s.ensures) (λ z. omega arith)
-
-pub returns-then-s-ne0 : goal.returns-then-s-ne0
-unfolding search_refusal_number sum_outcome
-returns-then-s-ne0 c =
-    let grid-is : ◌≡◌ {A = ℕ} c.grid_refusal-g.result
-    (past_grid (grid_of c.args.layout)
-    (planes_of c.args.y.now c.args.u.now c.args.v.now) 0) = of-lengths _ _ _ c.grid_refusal-g.ensures in
-    let e = c.source_refusal-s.ensures in
-    ends-source _ _ _ 9 (sym grid-is ∙ c.if-g-ne0.false) (sym (is-nine _ _ _ e c.if-s-eq8.false c.if-s-ne0.true) ∙ e) (λ z. omega arith)
-
-pub returns-then-width-eq0 : goal.returns-then-width-eq0
-unfolding search_refusal_number sum_outcome
-returns-then-width-eq0 c =
-    let grid-is : ◌≡◌ {A = ℕ} c.grid_refusal-g.result
-    (past_grid (grid_of c.args.layout)
-    (planes_of c.args.y.now c.args.u.now c.args.v.now) 0) = of-lengths _ _ _ c.grid_refusal-g.ensures in
-    ends-empty _ _ _ (sym grid-is ∙ c.if-g-ne0.false)
-    (sym c.source_refusal-s.ensures ∙ c.if-s-ne0.false) (no-sample-wide _ _ _ c.if-width-eq0.true)
-
-pub returns-then-height-eq0 : goal.returns-then-height-eq0
-unfolding search_refusal_number sum_outcome
-returns-then-height-eq0 c =
-    let grid-is : ◌≡◌ {A = ℕ} c.grid_refusal-g.result
-    (past_grid (grid_of c.args.layout)
-    (planes_of c.args.y.now c.args.u.now c.args.v.now) 0) = of-lengths _ _ _ c.grid_refusal-g.ensures in
-    ends-empty _ _ _ (sym grid-is ∙ c.if-g-ne0.false)
-    (sym c.source_refusal-s.ensures ∙ c.if-s-ne0.false) (no-sample-high _ _ _ c.if-height-eq0.true)
+pub returns-then-is_empty : goal.returns-then-is_empty
+returns-then-is_empty c =
+    let k = passed_sum (grid_of c.args.layout) (planes_in c.args.picture) (source_in c.args.source) _ c.judge_sum.ensures _ c.in_ok-judge_sum.was in
+    ends-empty (grid_of c.args.layout) (planes_in c.args.picture) (source_in c.args.source) k.0 k.1 (none-sums _ _ _ (sym c.is_empty.ensures ∙ c.if-is_empty.true))
 
 pub three_sums-requires : goal.three_sums-requires
 three_sums-requires c =
-    let grid-is : ◌≡◌ {A = ℕ} c.grid_refusal-g.result
-    (past_grid (grid_of c.args.layout)
-    (planes_of c.args.y.now c.args.u.now c.args.v.now) 0) = of-lengths _ _ _ c.grid_refusal-g.ensures in
-    summable _ _ _ (sym grid-is ∙ c.if-g-ne0.false)
-    (sym c.source_refusal-s.ensures ∙ c.if-s-ne0.false) (pos_of _ c.if-width-eq0.false) (pos_of _ c.if-height-eq0.false)
+    let k = passed_sum (grid_of c.args.layout) (planes_in c.args.picture) (source_in c.args.source) _ c.judge_sum.ensures _ c.in_ok-judge_sum.was in
+    let n = sampled_source (source_in c.args.source) (sym c.is_empty.ensures ∙ c.if-is_empty.false) in
+    summable (grid_of c.args.layout) (planes_in c.args.picture) (source_in c.args.source) k.0 k.1 n.0 n.1
 
 pub returns : goal.returns
 returns c =
-    let grid-is : ◌≡◌ {A = ℕ} c.grid_refusal-g.result
-    (past_grid (grid_of c.args.layout)
-    (planes_of c.args.y.now c.args.u.now c.args.v.now) 0) = of-lengths _ _ _ c.grid_refusal-g.ensures in
-    ap sum_outcome c.three_sums.ensures
-    ∙ ends-sum _ _ _ (sym grid-is ∙ c.if-g-ne0.false)
-    (sym c.source_refusal-s.ensures ∙ c.if-s-ne0.false)
+    let k = passed_sum (grid_of c.args.layout) (planes_in c.args.picture) (source_in c.args.source) _ c.judge_sum.ensures _ c.in_ok-judge_sum.was in
+    ap sum_outcome c.three_sums.ensures ∙ ends-sum (grid_of c.args.layout) (planes_in c.args.picture) (source_in c.args.source) k.0 k.1

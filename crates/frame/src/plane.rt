@@ -1,0 +1,107 @@
+// One plane of a macroblock, its edges in order (RFC 6386, section 15.1): left border, inner vertical edges, upper border, inner horizontal edges.
+ghost use Rattle.std.specs.Prelude.{◌*◌, ◌-◌, ◌/◌, length};
+ghost use Rattle.planes.specs.Edges.{vertical, horizontal};
+ghost use Rattle.frame.specs.Private.PlaneEdges.{Inside, Did, positions_of, left_from, top_from, inner_from, plane_from};
+
+use crate::edge::Edge;
+use edges::length::{EdgeLength, Samples};
+
+// A macroblock's square in a plane: `corner` is the index of its first sample, `row` and `column` are the macroblock's.
+#[derive(Clone, Copy)]
+pub(crate) struct Square {
+    pub(crate) stride: usize,
+    pub(crate) corner: usize,
+    pub(crate) row: usize,
+    pub(crate) column: usize,
+}
+
+fn left<E: Edge<N>, const N: usize>(edge: E, plane: &mut [u8], square: Square) -> usize
+where
+    Samples: EdgeLength<N>,
+    requires { Inside N square (length plane.old) }
+    ensures { Did N (left_from (E.kernel edge) N square) plane.old plane.new result }
+{
+    if 0 < square.column {
+        edge.vertical(plane, square.stride, square.corner - E::HALF)
+    } else {
+        0
+    }
+}
+
+fn inner_vertical<E: Edge<N>, const N: usize>(
+    edge: E,
+    plane: &mut [u8],
+    square: Square,
+    inside: bool,
+) -> usize
+where
+    Samples: EdgeLength<N>,
+    requires { Inside N square (length plane.old) }
+    ensures { Did (N * (N / 4 - 1)) (inner_from vertical (E.kernel edge) inside N square) plane.old plane.new result }
+{
+    if !inside {
+        return 0;
+    }
+    let mut smoothed = 0;
+    for n in 1..N / 4 {
+        smoothed += edge.vertical(plane, square.stride, square.corner + (4 * n - E::HALF));
+    }
+    smoothed
+}
+
+fn top<E: Edge<N>, const N: usize>(edge: E, plane: &mut [u8], square: Square) -> usize
+where
+    Samples: EdgeLength<N>,
+    requires { Inside N square (length plane.old) }
+    ensures { Did N (top_from (E.kernel edge) N square) plane.old plane.new result }
+{
+    if 0 < square.row {
+        edge.horizontal(
+            plane,
+            square.stride,
+            square.corner - E::HALF * square.stride,
+        )
+    } else {
+        0
+    }
+}
+
+fn inner_horizontal<E: Edge<N>, const N: usize>(
+    edge: E,
+    plane: &mut [u8],
+    square: Square,
+    inside: bool,
+) -> usize
+where
+    Samples: EdgeLength<N>,
+    requires { Inside N square (length plane.old) }
+    ensures { Did (N * (N / 4 - 1)) (inner_from horizontal (E.kernel edge) inside N square) plane.old plane.new result }
+{
+    if !inside {
+        return 0;
+    }
+    let mut smoothed = 0;
+    for n in 1..N / 4 {
+        let at = square.corner + (4 * n - E::HALF) * square.stride;
+        smoothed += edge.horizontal(plane, square.stride, at);
+    }
+    smoothed
+}
+
+pub(crate) fn filter_plane<A: Edge<N>, B: Edge<N>, const N: usize>(
+    outer: A,
+    inner: B,
+    plane: &mut [u8],
+    square: Square,
+    inside: bool,
+) -> usize
+where
+    Samples: EdgeLength<N>,
+    requires { Inside N square (length plane.old) }
+    ensures { Did (positions_of N) (plane_from (A.kernel outer) (B.kernel inner) inside N square) plane.old plane.new result }
+{
+    let a = left(outer, plane, square);
+    let b = a + inner_vertical(inner, plane, square, inside);
+    let c = b + top(outer, plane, square);
+    c + inner_horizontal(inner, plane, square, inside)
+}

@@ -1,2 +1,0 @@
--- What private functions promise each other: steps of the proof, which no public contract cites.
-pub mod PassSettings

@@ -1,7 +1,0 @@
--- The source that a record of lent slices stands for.
-use Rattle.sums.specs.Source.{Source, source_of}
-use Rattle.source.specs.declared.borrowed.SourcePlanes.{SourcePlanes}
-
-abbrev pub source_in : SourcePlanes → Source
-source_in src =
-    source_of src.width src.height src.y.now src.u.now src.v.now src.y_stride src.uv_stride

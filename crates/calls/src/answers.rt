@@ -1,15 +1,15 @@
-// What the passes answer. `specs/Answers.antt` gives each refusal its number in document 01, and each answer its values.
+// What the passes answer. `specs/Answers.antt` gives each answer its values in document 01.
 use planes::grid::GridRefusal;
 
-// Refusal 1, 2, 3, 5, 6 or 7.
+// Why a pass is refused, with its number in document 01.
 #[derive(Clone, Copy, Debug, PartialEq, Eq)]
 pub enum PassRefusal {
-    TooLarge,
-    BadStrides,
-    ShortPlane,
-    WrongLength,
-    BadEntry,
-    StartBeyond,
+    TooLarge = 1,
+    BadStrides = 2,
+    ShortPlane = 3,
+    WrongLength = 5,
+    BadEntry = 6,
+    StartBeyond = 7,
 }
 
 // The count of macroblocks done, the next start, and how many positions were smoothed.
@@ -28,14 +28,7 @@ impl From<PassRefusal> for u8 {
 
     #[tactic(auto, unfolding(crate::specs::Answers::pass_refusal_number))]
     fn from(refusal: PassRefusal) -> u8 {
-        match refusal {
-            PassRefusal::TooLarge => 1,
-            PassRefusal::BadStrides => 2,
-            PassRefusal::ShortPlane => 3,
-            PassRefusal::WrongLength => 5,
-            PassRefusal::BadEntry => 6,
-            PassRefusal::StartBeyond => 7,
-        }
+        refusal as u8
     }
 }
 

@@ -9,25 +9,22 @@ ghost use Rattle.edges.specs.Private.Runs.{RowsIn, rows_at, store_rows, SignedRo
 
 use crate::length::{EdgeLength, Samples};
 use crate::normal::{NormalEdge, limits_of};
-use crate::position::EdgeLimits;
-use crate::room::has_rows;
+use crate::place::EdgePlace;
 use crate::run::{normal_run, simple_run};
 use crate::taps::{gather, scatter};
 use arithmetic::limits::LoopFilterParams;
+use kernels::limits::EdgeLimits;
 
 // M rows of N samples.
 #[inline(always)]
-fn gather_rows<const M: usize, const N: usize>(
-    plane: &[u8],
-    stride: usize,
-    at: usize,
-) -> [[i16; N]; M]
-    requires { RowsIn M N stride at (length plane.now) }
-    ensures { result ≡ rows_at M N stride at plane.now }
+fn gather_rows<const M: usize, const N: usize>(plane: &[u8], place: EdgePlace) -> [[i16; N]; M]
+    requires { RowsIn M N place.stride place.at (length plane.now) }
+    ensures { result ≡ rows_at M N place.stride place.at plane.now }
 {
     let mut rows = [[0i16; N]; M];
+    // k is a row of the plane and of the array.
     for k in 0..M {
-        rows[k] = gather(plane, at + k * stride);
+        rows[k] = gather(plane, place.at + k * place.stride);
     }
     rows
 }
@@ -35,20 +32,20 @@ fn gather_rows<const M: usize, const N: usize>(
 // The rows from `first` to the one before `end`, stored.
 fn scatter_rows<const M: usize, const N: usize>(
     plane: &mut [u8],
-    stride: usize,
-    at: usize,
+    place: EdgePlace,
     rows: [[i16; N]; M],
     first: usize,
     end: usize,
 )
-    requires rows_in { RowsIn M N stride at (length plane.old) }
+    requires rows_in { RowsIn M N place.stride place.at (length plane.old) }
     requires first_bound { first ≤ end }
     requires end_bound { end ≤ M }
     requires signed_rows { (k : ℕ) → first ≤ k → k < end → SignedRow N (get_or rows k []) }
-    ensures { plane.new ≡ store_rows N stride at first (end - first) rows.entry plane.old }
+    ensures { plane.new ≡ store_rows N place.stride place.at first (end - first) rows.entry plane.old }
 {
+    // k is a row of the plane and of the array.
     for k in first..end {
-        scatter(plane, at + k * stride, rows[k]);
+        scatter(plane, place.at + k * place.stride, rows[k]);
     }
 }
 
@@ -56,70 +53,63 @@ fn scatter_rows<const M: usize, const N: usize>(
 #[inline(never)]
 fn normal_rows<E: NormalEdge, const N: usize>(
     plane: &mut [u8],
-    stride: usize,
-    at: usize,
+    place: EdgePlace,
     edge: EdgeLimits,
 ) -> usize
 where
     Samples: EdgeLength<N>,
-    requires { RowsIn 8 N stride at (length plane.old) }
-    ensures plane_after { plane.new ≡ edge_from horizontal (E.kernel edge.threshold edge.interior edge.limit) stride at N plane.old }
-    ensures value { result ≡ smoothed_from horizontal (E.kernel edge.threshold edge.interior edge.limit) stride at N plane.old }
+    requires { RowsIn 8 N place.stride place.at (length plane.old) }
+    ensures plane_after { plane.new ≡ edge_from horizontal (E.kernel edge.threshold edge.interior edge.limit) place.stride place.at N plane.old }
+    ensures value { result ≡ smoothed_from horizontal (E.kernel edge.threshold edge.interior edge.limit) place.stride place.at N plane.old }
 {
-    let taps = gather_rows::<8, N>(plane, stride, at);
+    let taps = gather_rows::<8, N>(plane, place);
     let (rows, passed) = normal_run::<E, N>(taps, edge);
-    scatter_rows(plane, stride, at, rows, 4 - E::CHANGED, 4 + E::CHANGED);
+    scatter_rows(plane, place, rows, 4 - E::CHANGED, 4 + E::CHANGED);
     usize::from(passed)
 }
 
 // An edge of the simple filter that fits.
 #[inline(never)]
-fn simple_rows<const N: usize>(plane: &mut [u8], stride: usize, at: usize, edge_limit: u8) -> usize
+fn simple_rows<const N: usize>(plane: &mut [u8], place: EdgePlace, edge_limit: u8) -> usize
 where
     Samples: EdgeLength<N>,
-    requires { RowsIn 4 N stride at (length plane.old) }
-    ensures plane_after { plane.new ≡ edge_from horizontal (simple_segment edge_limit) stride at N plane.old }
-    ensures value { result ≡ smoothed_from horizontal (simple_segment edge_limit) stride at N plane.old }
+    requires { RowsIn 4 N place.stride place.at (length plane.old) }
+    ensures plane_after { plane.new ≡ edge_from horizontal (simple_segment edge_limit) place.stride place.at N plane.old }
+    ensures value { result ≡ smoothed_from horizontal (simple_segment edge_limit) place.stride place.at N plane.old }
 {
-    let taps = gather_rows::<4, N>(plane, stride, at);
+    let taps = gather_rows::<4, N>(plane, place);
     let (rows, passed) = simple_run(taps, edge_limit);
-    scatter_rows(plane, stride, at, rows, 1, 3);
+    scatter_rows(plane, place, rows, 1, 3);
     usize::from(passed)
 }
 
 // A normal edge of N samples: a macroblock's upper border, or one between subblocks.
 pub fn normal_edge<E: NormalEdge, const N: usize>(
     plane: &mut [u8],
-    stride: usize,
-    at: usize,
+    place: EdgePlace,
     limits: LoopFilterParams,
 ) -> usize
 where
     Samples: EdgeLength<N>,
-    ensures plane_after { plane.new ≡ edge_within horizontal (kernel_of E.kernel E.edge_limit limits) stride at N plane.old }
-    ensures value { result ≡ smoothed_within horizontal (kernel_of E.kernel E.edge_limit limits) stride at N plane.old }
+    ensures plane_after { plane.new ≡ edge_within horizontal (kernel_of E.kernel E.edge_limit limits) place.stride place.at N plane.old }
+    ensures value { result ≡ smoothed_within horizontal (kernel_of E.kernel E.edge_limit limits) place.stride place.at N plane.old }
 {
-    if has_rows(plane.len(), 7, stride, at, N) {
-        normal_rows::<E, N>(plane, stride, at, limits_of::<E>(limits))
+    if place.has_rows(plane.len(), 7, N) {
+        normal_rows::<E, N>(plane, place, limits_of::<E>(limits))
     } else {
         0
     }
 }
 
 // Any edge of N samples of the simple filter.
-pub fn simple_edge<const N: usize>(
-    plane: &mut [u8],
-    stride: usize,
-    at: usize,
-    edge_limit: u8,
-) -> usize
+pub fn simple_edge<const N: usize>(plane: &mut [u8], place: EdgePlace, edge_limit: u8) -> usize
 where
     Samples: EdgeLength<N>,
-    ensures plane_after { plane.new ≡ edge_within horizontal (simple_segment edge_limit) stride at N plane.old }
-    ensures value { result ≡ smoothed_within horizontal (simple_segment edge_limit) stride at N plane.old }
+    ensures plane_after { plane.new ≡ edge_within horizontal (simple_segment edge_limit) place.stride place.at N plane.old }
+    ensures value { result ≡ smoothed_within horizontal (simple_segment edge_limit) place.stride place.at N plane.old }
 {
-    if has_rows(plane.len(), 3, stride, at, N) {
-        simple_rows::<N>(plane, stride, at, edge_limit)
+    if place.has_rows(plane.len(), 3, N) {
+        simple_rows::<N>(plane, place, edge_limit)
     } else {
         0
     }

@@ -4,8 +4,8 @@
 pub mod horizontal;
 pub mod length;
 pub mod normal;
+pub mod place;
 mod position;
-mod room;
 mod run;
 mod taps;
 pub mod vertical;

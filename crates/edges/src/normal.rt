@@ -8,11 +8,13 @@ ghost use Rattle.edges.specs.Private.Runs.{SignedEight, inner_taps, limits_of};
 ghost use Rattle.edges.specs.Private.Normal.{NormalKind, macroblock, subblock};
 
 use crate::position::{
-    EdgeLimits, EightTaps, InnerTaps, high_variance, normal_passes, softened, tap_value, widened,
+    EightTaps, InnerTaps, high_variance, normal_passes, softened, tap_value, widened,
 };
 use arithmetic::limits::LoopFilterParams;
 use arithmetic::signed::pick;
 use kernels::answers::KernelRefusal;
+use kernels::limits::EdgeLimits;
+use kernels::segments::normal_filter;
 
 pub trait NormalEdge {
     // The kernel, by its threshold and its interior and edge limits.
@@ -34,10 +36,10 @@ pub trait NormalEdge {
         requires { SignedEight taps }
         ensures { result ≡ inner_taps (kernel edge.threshold edge.interior edge.limit) taps };
 
-    // The kernel on the window of `seg` at base.
-    fn on_window(edge: EdgeLimits, seg: &mut [u8], base: usize) -> Result<bool, KernelRefusal>
-        ensures value { kernel_outcome result ≡ window_answer (kernel edge.threshold edge.interior edge.limit) seg.old base }
-        ensures seg_after { seg.new ≡ windowed (kernel edge.threshold edge.interior edge.limit) seg.old base };
+    // The kernel on the first samples of a slice.
+    fn on_window(edge: EdgeLimits, seg: &mut [u8]) -> Result<bool, KernelRefusal>
+        ensures value { kernel_outcome result ≡ window_answer (kernel edge.threshold edge.interior edge.limit) seg.old 0 }
+        ensures seg_after { seg.new ≡ windowed (kernel edge.threshold edge.interior edge.limit) seg.old 0 };
 
     // It is one of the two.
     ghost kind: { NormalKind kernel CHANGED };
@@ -54,6 +56,8 @@ pub(crate) fn limits_of<E: NormalEdge>(limits: LoopFilterParams) -> EdgeLimits
     }
 }
 
+// Each kind names its own kernel, limit and number: that is all in which the two impls are alike.
+#[derive(Clone, Copy)]
 pub struct MacroblockEdge;
 
 impl NormalEdge for MacroblockEdge {
@@ -76,13 +80,14 @@ impl NormalEdge for MacroblockEdge {
         widened(high, w, taps)
     }
 
-    fn on_window(edge: EdgeLimits, seg: &mut [u8], base: usize) -> Result<bool, KernelRefusal> {
-        kernels::segments::mb_filter(edge.threshold, edge.interior, edge.limit, seg, base)
+    fn on_window(edge: EdgeLimits, seg: &mut [u8]) -> Result<bool, KernelRefusal> {
+        normal_filter::<true>(edge, seg, 0)
     }
 
     ghost kind = { macroblock };
 }
 
+#[derive(Clone, Copy)]
 pub struct SubblockEdge;
 
 impl NormalEdge for SubblockEdge {
@@ -105,8 +110,8 @@ impl NormalEdge for SubblockEdge {
         softened(high, a, taps)
     }
 
-    fn on_window(edge: EdgeLimits, seg: &mut [u8], base: usize) -> Result<bool, KernelRefusal> {
-        kernels::segments::subblock_filter(edge.threshold, edge.interior, edge.limit, seg, base)
+    fn on_window(edge: EdgeLimits, seg: &mut [u8]) -> Result<bool, KernelRefusal> {
+        normal_filter::<false>(edge, seg, 0)
     }
 
     ghost kind = { subblock };

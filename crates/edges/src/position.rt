@@ -9,16 +9,9 @@ ghost use Rattle.edges.specs.Private.Runs as spec;
 ghost use Rattle.edges.specs.Private.Runs.{SignedEight, SignedFour, edge_taps, simple_passes, normal_passes, high_of, value_of};
 
 use arithmetic::signed::{at_most_123, clamp, filter_value, pick};
+use kernels::limits::EdgeLimits;
 
-// The limits of a normal edge.
-#[derive(Clone, Copy)]
-pub struct EdgeLimits {
-    pub threshold: u8,
-    pub interior: u8,
-    pub limit: u8,
-}
-
-// A segment p1 p0 | q0 q1.
+// A segment p1 p0 | q0 q1, as signed numbers: the samples as stored are the kernels' own.
 #[derive(Clone, Copy)]
 pub struct FourTaps {
     pub p1: i16,
@@ -37,7 +30,7 @@ pub struct EightTaps {
     pub q3: i16,
 }
 
-// The six inner taps of a segment of eight.
+// The six inner taps of a segment of eight: no kernel gives p3 and q3.
 #[derive(Clone, Copy)]
 pub struct InnerTaps {
     pub p2: i16,
@@ -55,7 +48,8 @@ pub struct EdgeTaps {
     pub q0: i16,
 }
 
-// |a - b|. It is signed, as comparisons of vectors of 16 bits are.
+// |a - b|. It is signed, as comparisons of vectors of 16 bits are. The bounds are clauses, here and below: a type for taps would be opened
+// for each sum and made anew of it.
 fn distance(a: i16, b: i16) -> i16
     requires a_bound { mag a < 128 }
     requires b_bound { mag b < 128 }
@@ -179,7 +173,7 @@ pub(crate) fn widened(high: bool, w: i16, taps: EightTaps) -> InnerTaps
     }
 }
 
-// subblock_filter after its tests: a is 0 where nothing changes.
+// subblock_filter after its tests: a is 0 where nothing changes. p2 and q2 stay, and stand with the others, which do not.
 pub(crate) fn softened(high: bool, a: i16, taps: EightTaps) -> InnerTaps
     requires a_bound { mag a < 128 }
     requires signed { SignedEight taps }

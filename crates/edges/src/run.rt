@@ -6,10 +6,11 @@ ghost use Rattle.edges.specs.Private.Runs.{SignedRows, SignedSix, eight_at, four
 use crate::length::{EdgeLength, Samples};
 use crate::normal::NormalEdge;
 use crate::position::{
-    EdgeLimits, EightTaps, FourTaps, InnerTaps, normal_passes, simple_passes, simple_position,
+    EightTaps, FourTaps, InnerTaps, normal_passes, simple_passes, simple_position,
 };
+use kernels::limits::EdgeLimits;
 
-// Position n of eight rows.
+// Position n of eight rows; n < N is what the index asks for.
 fn eight_at<const N: usize>(rows: &[[i16; N]; 8], n: usize) -> EightTaps
     requires signed_rows { SignedRows 8 N rows.now }
     requires n_bound { n < N }
@@ -92,6 +93,7 @@ where
 {
     let mut rows = taps;
     let mut marks: u16 = 0;
+    // n is a position of all rows.
     for n in 0..N {
         let position = four_at(&taps, n);
         let s = simple_position(edge_limit, position);

@@ -10,10 +10,10 @@ ghost use Rattle.edges.specs.Private.Windows.{passed_in};
 
 use crate::length::{EdgeLength, Samples};
 use crate::normal::{NormalEdge, limits_of};
-use crate::position::EdgeLimits;
-use crate::room::has_room;
+use crate::place::EdgePlace;
 use arithmetic::limits::LoopFilterParams;
 use kernels::answers::KernelRefusal;
+use kernels::limits::EdgeLimits;
 use kernels::segments::simple_segment;
 
 // The window's test passed.
@@ -39,21 +39,21 @@ fn note(passed: bool, missed: &mut usize)
 #[inline(never)]
 pub(crate) fn normal_rows<E: NormalEdge>(
     plane: &mut [u8],
-    stride: usize,
-    at: usize,
+    place: EdgePlace,
     rows: usize,
     edge: EdgeLimits,
     missed: &mut usize,
 )
-    requires stride_in_bounds { at + (rows - 1) * stride + 8 ≤ length plane.old }
+    requires stride_in_bounds { place.at + (rows - 1) * place.stride + 8 ≤ length plane.old }
     requires missed_value { missed.old ≡ 0 }
-    ensures plane_after { plane.new ≡ edge_from vertical (E.kernel edge.threshold edge.interior edge.limit) stride at rows plane.old }
-    ensures missed_after { missed.new + smoothed_from vertical (E.kernel edge.threshold edge.interior edge.limit) stride at rows plane.old ≡ rows }
+    ensures plane_after { plane.new ≡ edge_from vertical (E.kernel edge.threshold edge.interior edge.limit) place.stride place.at rows plane.old }
+    ensures missed_after { missed.new + smoothed_from vertical (E.kernel edge.threshold edge.interior edge.limit) place.stride place.at rows plane.old ≡ rows }
 {
+    // n gives the row's place.
     for n in 0..rows {
-        let a = at + n * stride;
+        let a = place.at + n * place.stride;
         let e = a + 8;
-        let answer = E::on_window(edge, &mut plane[a..e], 0);
+        let answer = E::on_window(edge, &mut plane[a..e]);
         let passed = passed_in(answer);
         note(passed, missed);
     }
@@ -61,14 +61,15 @@ pub(crate) fn normal_rows<E: NormalEdge>(
 
 // An edge of the simple filter that fits, `rows` rows of it.
 #[inline(never)]
-fn simple_rows(plane: &mut [u8], stride: usize, at: usize, rows: usize, edge_limit: u8) -> usize
-    requires { at + (rows - 1) * stride + 4 ≤ length plane.old }
-    ensures plane_after { plane.new ≡ edge_from vertical (simple_segment edge_limit) stride at rows plane.old }
-    ensures value { result ≡ smoothed_from vertical (simple_segment edge_limit) stride at rows plane.old }
+fn simple_rows(plane: &mut [u8], place: EdgePlace, rows: usize, edge_limit: u8) -> usize
+    requires { place.at + (rows - 1) * place.stride + 4 ≤ length plane.old }
+    ensures plane_after { plane.new ≡ edge_from vertical (simple_segment edge_limit) place.stride place.at rows plane.old }
+    ensures value { result ≡ smoothed_from vertical (simple_segment edge_limit) place.stride place.at rows plane.old }
 {
     let mut smoothed: usize = 0;
+    // n gives the row's place.
     for n in 0..rows {
-        let a = at + n * stride;
+        let a = place.at + n * place.stride;
         let e = a + 4;
         let answer = simple_segment(edge_limit, &mut plane[a..e], 0);
         let passed = passed_in(answer);
@@ -77,41 +78,36 @@ fn simple_rows(plane: &mut [u8], stride: usize, at: usize, rows: usize, edge_lim
     smoothed
 }
 
+// Across the rows there is a function of the same form: it asks for eight rows of room and gathers them, where this asks for N and lends each.
 // A normal edge of N rows: a macroblock's left border, or one between subblocks.
 pub fn normal_edge<E: NormalEdge, const N: usize>(
     plane: &mut [u8],
-    stride: usize,
-    at: usize,
+    place: EdgePlace,
     limits: LoopFilterParams,
 ) -> usize
 where
     Samples: EdgeLength<N>,
-    ensures plane_after { plane.new ≡ edge_within vertical (kernel_of E.kernel E.edge_limit limits) stride at N plane.old }
-    ensures value { result ≡ smoothed_within vertical (kernel_of E.kernel E.edge_limit limits) stride at N plane.old }
+    ensures plane_after { plane.new ≡ edge_within vertical (kernel_of E.kernel E.edge_limit limits) place.stride place.at N plane.old }
+    ensures value { result ≡ smoothed_within vertical (kernel_of E.kernel E.edge_limit limits) place.stride place.at N plane.old }
 {
-    if has_room(plane.len(), N - 1, stride, at, 8) {
+    if place.has_room(plane.len(), N - 1, 8) {
         let mut missed: usize = 0;
-        normal_rows::<E>(plane, stride, at, N, limits_of::<E>(limits), &mut missed);
+        normal_rows::<E>(plane, place, N, limits_of::<E>(limits), &mut missed);
         N - missed
     } else {
         0
     }
 }
 
-// Any edge of N rows of the simple filter.
-pub fn simple_edge<const N: usize>(
-    plane: &mut [u8],
-    stride: usize,
-    at: usize,
-    edge_limit: u8,
-) -> usize
+// Any edge of N rows of the simple filter; the same holds of it.
+pub fn simple_edge<const N: usize>(plane: &mut [u8], place: EdgePlace, edge_limit: u8) -> usize
 where
     Samples: EdgeLength<N>,
-    ensures plane_after { plane.new ≡ edge_within vertical (simple_segment edge_limit) stride at N plane.old }
-    ensures value { result ≡ smoothed_within vertical (simple_segment edge_limit) stride at N plane.old }
+    ensures plane_after { plane.new ≡ edge_within vertical (simple_segment edge_limit) place.stride place.at N plane.old }
+    ensures value { result ≡ smoothed_within vertical (simple_segment edge_limit) place.stride place.at N plane.old }
 {
-    if has_room(plane.len(), N - 1, stride, at, 4) {
-        simple_rows(plane, stride, at, N, edge_limit)
+    if place.has_room(plane.len(), N - 1, 4) {
+        simple_rows(plane, place, N, edge_limit)
     } else {
         0
     }

@@ -1,7 +1,7 @@
 // Figures M, N and O of document 01, executed.
 #![tactic(auto)]
 
-ghost use Rattle.std.specs.Prelude.{◌≤◌, ◌<◌};
+ghost use Rattle.std.specs.Prelude.{◌<◌};
 
 use calls::answers::{Done, PassRefusal};
 use frame::entries::{InterLists, KeyLists};
@@ -9,7 +9,7 @@ use frame::pass::filter_frame;
 use levels::config::FrameFilterConfig;
 use planes::layout::PlaneLayout;
 use planes::picture::PictureMut;
-use std::io;
+use std::{array, fmt, io};
 
 #[derive(Clone, Copy, PartialEq, Eq)]
 enum Filter {
@@ -17,7 +17,7 @@ enum Filter {
     Simple,
 }
 
-#[derive(Clone, Copy, PartialEq, Eq)]
+#[derive(Clone, Copy)]
 enum Frames {
     Key,
     Inter,
@@ -66,13 +66,7 @@ struct Planes {
 fn steps<const N: usize>(half: usize) -> [u8; N]
     requires { 0 < half }
 {
-    let mut plane = [100u8; N];
-    for (i, sample) in plane.iter_mut().enumerate() {
-        if i / half % 2 == 1 {
-            *sample = 108;
-        }
-    }
-    plane
+    array::from_fn(|i| if i / half % 2 == 0 { 100 } else { 108 })
 }
 
 impl Planes {
@@ -136,57 +130,72 @@ fn stays_at_every_level(filter: Filter, frames: Frames) -> bool {
     (0..=255u8).all(|level| one_macroblock_stays(filter, frames, level))
 }
 
-fn show_stays(rt: &impl Print, filter: Filter, frames: Frames) -> io::Result<()> {
-    if stays_at_every_level(filter, frames) {
-        println!(rt; "nothing changes, nothing is smoothed")
-    } else {
-        println!(rt; "a sample changes, or something is smoothed")
-    }
-}
-
-// Whether some sample of a column differs.
-fn column_differs(a: &[u8], b: &[u8], stride: usize, column: usize) -> bool
-    requires stride_bound { stride ≤ 32 }
-    requires column_bound { column ≤ 32 }
-{
-    for row in 0..16 {
-        let i = row * stride + column;
-        if a.get(i) != b.get(i) {
-            return true;
-        }
-    }
-    false
-}
-
-// A letter for each column: x where it differs.
-fn show_columns(rt: &impl Print, a: &[u8], b: &[u8], stride: usize) -> io::Result<()>
-    requires { stride ≤ 32 }
-{
-    for column in 0..stride {
-        if column_differs(a, b, stride, column) {
-            print!(rt; "x")?;
+// M, for both filters and both passes.
+fn one_macroblock(rt: &impl Print) -> io::Result<()> {
+    let cases = [
+        ("normal, key", Filter::Normal, Frames::Key),
+        ("normal, inter", Filter::Normal, Frames::Inter),
+        ("simple, key", Filter::Simple, Frames::Key),
+        ("simple, inter", Filter::Simple, Frames::Inter),
+    ];
+    for (name, filter, frames) in cases {
+        let found = if stays_at_every_level(filter, frames) {
+            "nothing changes, nothing is smoothed"
         } else {
-            print!(rt; ".")?;
-        }
+            "a sample changes, or something is smoothed"
+        };
+        println!(rt; "M {name}: {found}")?;
     }
-    println!(rt)
+    Ok(())
 }
 
-fn show_answer(rt: &impl Print, answer: Result<Done, PassRefusal>) -> io::Result<()> {
-    match answer {
-        Ok(
-            Done {
-                count,
-                next,
-                smoothed,
-            },
-        ) => println!(rt; "count {count}, next {next}, smoothed {smoothed}"),
-        Err(refusal) => println!(rt; "refused with {}", u8::from(refusal)),
+// The columns of a plane before and after a call: a letter for each, x where some sample of it differs.
+#[derive(Clone, Copy)]
+struct Columns<'a, const STRIDE: usize> {
+    before: &'a [u8],
+    after: &'a [u8],
+}
+
+impl<const STRIDE: usize> Columns<'_, STRIDE> {
+    fn differs(&self, column: usize) -> bool
+        requires { column < STRIDE }
+    {
+        let before = self.before.iter().skip(column).step_by(STRIDE);
+        let after = self.after.iter().skip(column).step_by(STRIDE);
+        before.ne(after)
+    }
+}
+
+impl<const STRIDE: usize> fmt::Display for Columns<'_, STRIDE> {
+    fn fmt<W: fmt::Write>(&self, f: &mut fmt::Formatter<W>) -> fmt::Result {
+        for column in 0..STRIDE {
+            f.write_char(if self.differs(column) { 'x' } else { '.' })?;
+        }
+        Ok(())
+    }
+}
+
+// What a call answers, to be shown.
+#[derive(Clone, Copy)]
+struct Answer(Result<Done, PassRefusal>);
+
+impl fmt::Display for Answer {
+    fn fmt<W: fmt::Write>(&self, f: &mut fmt::Formatter<W>) -> fmt::Result {
+        match self.0 {
+            Ok(
+                Done {
+                    count,
+                    next,
+                    smoothed,
+                },
+            ) => write!(f, "count {count}, next {next}, smoothed {smoothed}"),
+            Err(refusal) => write!(f, "refused with {}", u8::from(refusal)),
+        }
     }
 }
 
 // A call on a grid of two macroblocks of mode Dc and flag 0.
-fn filter_two(planes: &mut Planes, start: usize, allowance: usize) -> Result<Done, PassRefusal> {
+fn filter_two(planes: &mut Planes, start: usize, allowance: usize) -> Answer {
     let zero = [0u8; 2];
     let entries = KeyLists {
         modes: &zero,
@@ -194,44 +203,42 @@ fn filter_two(planes: &mut Planes, start: usize, allowance: usize) -> Result<Don
         flags: &zero,
     };
     let config = settings(Filter::Normal, 63);
-    filter_frame(
+    Answer(filter_frame(
         &mut planes.lend(),
         layout(2),
         entries,
         config,
         start,
         allowance,
-    )
+    ))
 }
 
 // N: halted after one macroblock, then resumed. O: starts 2 and 3.
 fn two_macroblocks(rt: &impl Print) -> io::Result<()> {
     let mut planes = Planes::stepped(16, 8);
-    print!(rt; "N first call: ")?;
-    show_answer(rt, filter_two(&mut planes, 0, 1))?;
+    println!(rt; "N first call: {}", filter_two(&mut planes, 0, 1))?;
     let halted = planes;
-    print!(rt; "N second call: ")?;
-    show_answer(rt, filter_two(&mut planes, 1, 1))?;
-    print!(rt; "N columns that it changes, y: ")?;
-    show_columns(rt, &planes.y, &halted.y, 32)?;
-    print!(rt; "N columns that it changes, u: ")?;
-    show_columns(rt, &planes.u, &halted.u, 16)?;
-    print!(rt; "N columns that it changes, v: ")?;
-    show_columns(rt, &planes.v, &halted.v, 16)?;
-    print!(rt; "O start 2: ")?;
-    show_answer(rt, filter_two(&mut planes, 2, 5))?;
-    print!(rt; "O start 3: ")?;
-    show_answer(rt, filter_two(&mut planes, 3, 5))
+    println!(rt; "N second call: {}", filter_two(&mut planes, 1, 1))?;
+    let y: Columns<'_, 32> = Columns {
+        before: &halted.y,
+        after: &planes.y,
+    };
+    println!(rt; "N columns that it changes, y: {y}")?;
+    let u: Columns<'_, 16> = Columns {
+        before: &halted.u,
+        after: &planes.u,
+    };
+    println!(rt; "N columns that it changes, u: {u}")?;
+    let v: Columns<'_, 16> = Columns {
+        before: &halted.v,
+        after: &planes.v,
+    };
+    println!(rt; "N columns that it changes, v: {v}")?;
+    println!(rt; "O start 2: {}", filter_two(&mut planes, 2, 5))?;
+    println!(rt; "O start 3: {}", filter_two(&mut planes, 3, 5))
 }
 
 fn main(rt: HostRuntime) -> io::Result<()> {
-    print!(rt; "M normal, key: ")?;
-    show_stays(&rt, Filter::Normal, Frames::Key)?;
-    print!(rt; "M normal, inter: ")?;
-    show_stays(&rt, Filter::Normal, Frames::Inter)?;
-    print!(rt; "M simple, key: ")?;
-    show_stays(&rt, Filter::Simple, Frames::Key)?;
-    print!(rt; "M simple, inter: ")?;
-    show_stays(&rt, Filter::Simple, Frames::Inter)?;
+    one_macroblock(&rt)?;
     two_macroblocks(&rt)
 }

@@ -8,6 +8,7 @@ ghost use Rattle.calls.specs.Pass.{is_b};
 use levels::cases::{inter_mode_case, reference_case};
 use levels::modes::{InterMode, IntraYMode, RefFrame};
 
+// Each names the decoding and the last case of its type.
 #[tactic(auto, using(levels::proofs::Encodings::mode_or_last))]
 pub(crate) fn mode_of(byte: u8) -> IntraYMode
     ensures { result ≡ mode_of byte }

@@ -3,14 +3,15 @@ ghost use Rattle.std.specs.Prelude.{◌≡◌, ℕ};
 ghost use Rattle.kernels.specs.Segment.{Kernel, simple_segment, half};
 ghost use Rattle.planes.specs.Edges.{vertical, horizontal};
 ghost use Rattle.edges.specs.EdgeFrom.{edge_within, smoothed_within};
-ghost use Rattle.edges.specs.NormalKernels.{outer_of, inner_of};
-ghost use Rattle.frame.specs.Private.Halves.{outer-half, inner-half, simple-half};
+ghost use Rattle.edges.specs.NormalKernels.{kernel_of};
+ghost use Rattle.frame.specs.Private.Halves.{normal-half, simple-half};
 
 use arithmetic::limits::LoopFilterParams;
 use edges::length::{EdgeLength, Samples};
-use edges::normal::{MacroblockEdge, SubblockEdge};
+use edges::normal::NormalEdge;
+use edges::place::EdgePlace;
 
-// `at` is the index of the first tap at the edge's first position. What does not fit is left alone.
+// What does not fit is left alone.
 pub(crate) trait Edge<const N: usize>: Copy {
     ghost kernel: { Self → Kernel };
 
@@ -19,65 +20,44 @@ pub(crate) trait Edge<const N: usize>: Copy {
 
     const HALF: usize;
 
-    fn vertical(self, plane: &mut [u8], stride: usize, at: usize) -> usize
-        ensures plane_after { plane.new ≡ edge_within vertical (kernel self) stride at N plane.old }
-        ensures value { result ≡ smoothed_within vertical (kernel self) stride at N plane.old };
+    fn vertical(self, plane: &mut [u8], place: EdgePlace) -> usize
+        ensures plane_after { plane.new ≡ edge_within vertical (kernel self) place.stride place.at N plane.old }
+        ensures value { result ≡ smoothed_within vertical (kernel self) place.stride place.at N plane.old };
 
-    fn horizontal(self, plane: &mut [u8], stride: usize, at: usize) -> usize
-        ensures plane_after { plane.new ≡ edge_within horizontal (kernel self) stride at N plane.old }
-        ensures value { result ≡ smoothed_within horizontal (kernel self) stride at N plane.old };
+    fn horizontal(self, plane: &mut [u8], place: EdgePlace) -> usize
+        ensures plane_after { plane.new ≡ edge_within horizontal (kernel self) place.stride place.at N plane.old }
+        ensures value { result ≡ smoothed_within horizontal (kernel self) place.stride place.at N plane.old };
 
     ghost half_is: { (e : Self) → half (kernel e) ≡ HALF };
 }
 
-// A macroblock's border under the normal filter.
+// An edge under the normal filter, of either kind, with the macroblock's limits. Its two methods name the function of their direction, as
+// do those of the simple filter.
 #[derive(Clone, Copy)]
-pub(crate) struct Outer(pub(crate) LoopFilterParams);
-
-impl<const N: usize> Edge<N> for Outer
-where
-    Samples: EdgeLength<N>,
-{
-    ghost kernel = { λ e. outer_of e.0 };
-
-    ghost HALF = { 4 };
-
-    const HALF: usize = 4;
-
-    fn vertical(self, plane: &mut [u8], stride: usize, at: usize) -> usize {
-        edges::vertical::normal_edge::<MacroblockEdge, N>(plane, stride, at, self.0)
-    }
-
-    fn horizontal(self, plane: &mut [u8], stride: usize, at: usize) -> usize {
-        edges::horizontal::normal_edge::<MacroblockEdge, N>(plane, stride, at, self.0)
-    }
-
-    ghost half_is = { λ e. outer-half e.0 };
+pub(crate) struct Normal<E> {
+    pub(crate) kind: E,
+    pub(crate) limits: LoopFilterParams,
 }
 
-// An edge between subblocks under the normal filter.
-#[derive(Clone, Copy)]
-pub(crate) struct Inner(pub(crate) LoopFilterParams);
-
-impl<const N: usize> Edge<N> for Inner
+impl<E: NormalEdge + Copy, const N: usize> Edge<N> for Normal<E>
 where
     Samples: EdgeLength<N>,
 {
-    ghost kernel = { λ e. inner_of e.0 };
+    ghost kernel = { λ e. kernel_of E.kernel E.edge_limit e.limits };
 
     ghost HALF = { 4 };
 
     const HALF: usize = 4;
 
-    fn vertical(self, plane: &mut [u8], stride: usize, at: usize) -> usize {
-        edges::vertical::normal_edge::<SubblockEdge, N>(plane, stride, at, self.0)
+    fn vertical(self, plane: &mut [u8], place: EdgePlace) -> usize {
+        edges::vertical::normal_edge::<E, N>(plane, place, self.limits)
     }
 
-    fn horizontal(self, plane: &mut [u8], stride: usize, at: usize) -> usize {
-        edges::horizontal::normal_edge::<SubblockEdge, N>(plane, stride, at, self.0)
+    fn horizontal(self, plane: &mut [u8], place: EdgePlace) -> usize {
+        edges::horizontal::normal_edge::<E, N>(plane, place, self.limits)
     }
 
-    ghost half_is = { λ e. inner-half e.0 };
+    ghost half_is = { λ e. normal-half E.kind e.limits.hev_threshold e.limits.interior_limit (E.edge_limit e.limits) };
 }
 
 // Any edge of the simple filter, with its edge limit.
@@ -94,12 +74,12 @@ where
 
     const HALF: usize = 2;
 
-    fn vertical(self, plane: &mut [u8], stride: usize, at: usize) -> usize {
-        edges::vertical::simple_edge::<N>(plane, stride, at, self.0)
+    fn vertical(self, plane: &mut [u8], place: EdgePlace) -> usize {
+        edges::vertical::simple_edge::<N>(plane, place, self.0)
     }
 
-    fn horizontal(self, plane: &mut [u8], stride: usize, at: usize) -> usize {
-        edges::horizontal::simple_edge::<N>(plane, stride, at, self.0)
+    fn horizontal(self, plane: &mut [u8], place: EdgePlace) -> usize {
+        edges::horizontal::simple_edge::<N>(plane, place, self.0)
     }
 
     ghost half_is = { λ e. simple-half e.0 };

@@ -31,12 +31,13 @@ pub struct KeyRecords<'a> {
     pub list: &'a [MacroblockModes],
 }
 
-// Records for the inter pass.
+// Records for the inter pass. Not one type with the key pass: which pass it is goes by the type.
 #[derive(Clone, Copy)]
 pub struct InterRecords<'a> {
     pub list: &'a [MacroblockModes],
 }
 
+// The four plans read four kinds of entries, each in one way: by one list or by five, by byte or by record.
 impl<'a> Entries for KeyLists<'a> {
     ghost use Rattle.std.specs.Prelude.{◌<◌, length};
     ghost use Rattle.calls.specs.Entries.{KeyCarried};

@@ -17,6 +17,7 @@ use levels::config::FrameFilterConfig;
 use planes::layout::PlaneLayout;
 use planes::picture::PictureMut;
 
+// Planes, layout, entries and settings are document 01's parameters of a pass, in its order.
 // Macroblocks `from` to `to` - 1. The answer: how many positions were smoothed.
 fn filter_range<E: Entries>(
     picture: &mut PictureMut<'_>,

@@ -1,10 +1,11 @@
 // One plane of a macroblock, its edges in order (RFC 6386, section 15.1): left border, inner vertical edges, upper border, inner horizontal edges.
-ghost use Rattle.std.specs.Prelude.{◌*◌, ◌-◌, ◌/◌, length};
+ghost use Rattle.std.specs.Prelude.{◌≡◌, ◌*◌, ◌-◌, ◌/◌, length};
 ghost use Rattle.planes.specs.Edges.{vertical, horizontal};
-ghost use Rattle.frame.specs.Private.PlaneEdges.{Inside, Did, positions_of, left_from, top_from, inner_from, plane_from};
+ghost use Rattle.frame.specs.Private.PlaneEdges.{Inside, Did, place_of, positions_of, left_from, top_from, inner_from, plane_from};
 
 use crate::edge::Edge;
 use edges::length::{EdgeLength, Samples};
+use edges::place::EdgePlace;
 
 // A macroblock's square in a plane: `corner` is the index of its first sample, `row` and `column` are the macroblock's.
 #[derive(Clone, Copy)]
@@ -15,6 +16,19 @@ pub(crate) struct Square {
     pub(crate) column: usize,
 }
 
+impl Square {
+    // Of an edge in this plane whose first tap is sample `at`.
+    fn place(self, at: usize) -> EdgePlace
+        ensures { result ≡ place_of self at }
+    {
+        EdgePlace {
+            stride: self.stride,
+            at,
+        }
+    }
+}
+
+// A clause on both, and no method of either: the square lies in this plane.
 fn left<E: Edge<N>, const N: usize>(edge: E, plane: &mut [u8], square: Square) -> usize
 where
     Samples: EdgeLength<N>,
@@ -22,7 +36,7 @@ where
     ensures { Did N (left_from (E.kernel edge) N square) plane.old plane.new result }
 {
     if 0 < square.column {
-        edge.vertical(plane, square.stride, square.corner - E::HALF)
+        edge.vertical(plane, square.place(square.corner - E::HALF))
     } else {
         0
     }
@@ -44,7 +58,8 @@ where
     }
     let mut smoothed = 0;
     for n in 1..N / 4 {
-        smoothed += edge.vertical(plane, square.stride, square.corner + (4 * n - E::HALF));
+        let at = square.corner + (4 * n - E::HALF);
+        smoothed += edge.vertical(plane, square.place(at));
     }
     smoothed
 }
@@ -56,16 +71,14 @@ where
     ensures { Did N (top_from (E.kernel edge) N square) plane.old plane.new result }
 {
     if 0 < square.row {
-        edge.horizontal(
-            plane,
-            square.stride,
-            square.corner - E::HALF * square.stride,
-        )
+        let at = square.corner - E::HALF * square.stride;
+        edge.horizontal(plane, square.place(at))
     } else {
         0
     }
 }
 
+// Its edges are rows apart and not samples, as in the definition: a function of both directions would ask which at each step.
 fn inner_horizontal<E: Edge<N>, const N: usize>(
     edge: E,
     plane: &mut [u8],
@@ -83,7 +96,7 @@ where
     let mut smoothed = 0;
     for n in 1..N / 4 {
         let at = square.corner + (4 * n - E::HALF) * square.stride;
-        smoothed += edge.horizontal(plane, square.stride, at);
+        smoothed += edge.horizontal(plane, square.place(at));
     }
     smoothed
 }

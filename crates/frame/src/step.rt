@@ -7,16 +7,17 @@ ghost use Rattle.frame.specs.Private.PlaneEdges.{square_at};
 ghost use Rattle.planes.specs.Planes.{macroblocks};
 ghost use Rattle.frame.specs.Private.Ranges.{Sound, Stepped};
 
-use crate::edge::{Inner, Outer, Simple};
+use crate::edge::{Normal, Simple};
 use crate::plane::{Square, filter_plane};
 use arithmetic::limits::LoopFilterParams;
+use edges::normal::{MacroblockEdge, SubblockEdge};
 use judge::entries::MacroblockPlan;
 use levels::config::FrameFilterConfig;
 use limit_table::table::limits_at;
 use planes::layout::PlaneLayout;
 use planes::picture::PictureMut;
 
-// The square of `side` samples of the macroblock in this row and column.
+// The square of `side` samples of the macroblock in this row and column. The bounds are of a layout that was judged; callers' own have none.
 fn square(side: usize, stride: usize, row: usize, column: usize) -> Square
     requires side_bound { side ≤ 16 }
     requires stride_bound { stride ≤ 65536 }
@@ -51,13 +52,20 @@ fn filter_with(
     let luma = square(16, layout.y_stride, row, column);
     if simple {
         let (outer, inner) = (Simple(limits.mbedge_limit), Simple(limits.sub_bedge_limit));
-        filter_plane::<Simple, Simple, 16>(outer, inner, picture.y, luma, inside)
+        filter_plane::<_, _, 16>(outer, inner, picture.y, luma, inside)
     } else {
         let chroma = square(8, layout.uv_stride, row, column);
-        let (outer, inner) = (Outer(limits), Inner(limits));
-        let a = filter_plane::<Outer, Inner, 16>(outer, inner, picture.y, luma, inside);
-        let b = a + filter_plane::<Outer, Inner, 8>(outer, inner, picture.u, chroma, inside);
-        b + filter_plane::<Outer, Inner, 8>(outer, inner, picture.v, chroma, inside)
+        let outer = Normal {
+            kind: MacroblockEdge,
+            limits,
+        };
+        let inner = Normal {
+            kind: SubblockEdge,
+            limits,
+        };
+        let a = filter_plane::<_, _, 16>(outer, inner, picture.y, luma, inside);
+        let b = a + filter_plane::<_, _, 8>(outer, inner, picture.u, chroma, inside);
+        b + filter_plane::<_, _, 8>(outer, inner, picture.v, chroma, inside)
     }
 }
 

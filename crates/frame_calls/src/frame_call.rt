@@ -12,6 +12,7 @@ use levels::config::FrameFilterConfig;
 use planes::layout::PlaneLayout;
 use planes::picture::PictureMut;
 
+// It takes what the pass takes.
 // The pass of the entries, turned off by header level 0: then its macroblocks count as done, and nothing is smoothed.
 pub fn loop_filter_frame<E: Entries>(
     picture: &mut PictureMut<'_>,

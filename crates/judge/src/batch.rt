@@ -49,10 +49,8 @@ pub fn judge_call<E: Entries>(
     if entries.bad_entry() {
         return Err(PassRefusal::BadEntry);
     }
-    if n < start {
-        return Err(PassRefusal::StartBeyond);
-    }
-    let count = allowance.min(n - start);
+    let rest = n.checked_sub(start).ok_or(PassRefusal::StartBeyond)?;
+    let count = allowance.min(rest);
     let next = start + count;
     let done = Done {
         count,

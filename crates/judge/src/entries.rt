@@ -11,6 +11,7 @@ use levels::config::FrameFilterConfig;
 #[derive(Clone, Copy, Debug, PartialEq, Eq)]
 pub struct MacroblockPlan {
     pub level: u8,
+    // Of any level: no Option of it.
     pub inside: bool,
 }
 
@@ -51,6 +52,7 @@ pub fn any_above(list: &[u8], most: u8) -> bool
     found
 }
 
+// Three lists and no list of entries: so document 01 has callers lend them.
 // 6 in the inter pass: a mode above 4, a reference above 3 or an inter mode above 5.
 #[tactic(auto, unfolding(levels::specs::Encodings::bad_mode, levels::specs::Encodings::bad_reference, levels::specs::Encodings::bad_inter_mode))]
 pub fn bad_entries(modes: &[u8], references: &[u8], inter_modes: &[u8]) -> bool

@@ -31,7 +31,7 @@ ends a b = pick (ltb a b) refl
     pick false q = let h : b ≤ a = ltb-false a b q in inr (omega (arith, apart_above a b h))
 
 -- differences that are cut at 0
-apart-both : (a b : ℕ) → apart (pos a) (pos b) ≡ (a - b) + (b - a)
+pub apart-both : (a b : ℕ) → apart (pos a) (pos b) ≡ (a - b) + (b - a)
 apart-both a b = pick (ends a b)
   where
     pick : Ends a b (apart (pos a) (pos b)) → apart (pos a) (pos b) ≡ (a - b) + (b - a)

@@ -1,8 +1,10 @@
 -- Samples as stored in place of signed ones: the bound 0..255, the bound 123, and the parts of w that need no bound.
 -- Assumes nothing.
 use Rattle.std.proofs.Common.{◌≡◌, ℕ, zero, suc, ◌+◌, ◌-◌, ◌*◌, ◌<◌, Bool, true, false, cond, ◌&&◌, T, eqb, ltb, leb, ℤ, pos, negsuc, ◌+ℤ◌, ◌-ℤ◌, ◌*ℤ◌, neg_ℤ, nat_abs, sym, refl, ap, ◌∙◌, subst, lt_of_lt_of_le, not-suc-le-zero, arith, lit<, eqb→eq, leb→le, w8, Fits, to_z, ltb-false, ltb-true, le-ltb, lt-ltb, eqb-true, le-leb}
+use Rattle.std.proofs.lemmas.Grind.{common_steps}
 use mathlib.Core.Bool.{false≢true}
 use lib.IntN.{sub_ℕ, +ℤ_assoc, +ℤ_comm, -ℤ-+ℤ_cancel}
+use Rattle.std.specs.Int.{int_min, int_max}
 use lib.Signed.{mag, lt_z, non_neg, shr_z}
 use borrow.Author.Tests.{eqb-false}
 use mir.Syntax.{Width}
@@ -24,6 +26,15 @@ cut-mid v e f = rw (e, f)
 pub cut_high : (v : ℤ) → lt_z v (pos 0) ≡ false → lt_z v (pos 256) ≡ false → cut v ≡ 255
 unfolding cut
 cut_high v e f = rw (e, f)
+
+byte_limits : (v : ℤ) → int_max (pos 0) (int_min v (pos 255)) ≡ pos (cut v)
+unfolding cut
+byte_limits (pos n) = grind (arith, common_steps)
+byte_limits (negsuc n) = grind (arith, common_steps)
+
+-- as std computes it
+pub cut-is : (v : ℤ) → nat_abs (int_max (pos 0) (int_min v (pos 255))) ≡ cut v
+cut-is v = ap nat_abs (byte_limits v)
 
 -- a number that needs no cut
 pub record Plain (v : ℤ) : Type 0 where

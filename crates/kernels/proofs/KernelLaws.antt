@@ -1,7 +1,7 @@
 -- What the four kernels share: they take 4 or 8 samples, give as many, and keep the two outermost.
 use Rattle.std.proofs.Common.{◌≡◌, ℕ, ◌-◌, ◌≤◌, Bool, true, false, cond, List, length, get_or, refl, arith}
 use Rattle.kernels.specs.Kernels as K
-use Rattle.kernels.specs.Segment.{Kernel, common_adjust, simple_segment, subblock_filter, mb_filter, half, taps, smooth}
+use Rattle.kernels.specs.Segment.{Kernel, common_adjust, simple_segment, subblock_filter, mb_filter, normal, half, taps, smooth}
 
 -- ---- how many
 
@@ -18,6 +18,11 @@ half-least (common_adjust outer) = omega arith
 half-least (simple_segment edge) = omega arith
 half-least (subblock_filter threshold interior edge) = omega arith
 half-least (mb_filter threshold interior edge) = omega arith
+
+pub normal-taps : (wide : Bool) (t i e : ℕ) → taps (normal wide t i e) ≡ 8
+unfolding taps half
+normal-taps true t i e = refl
+normal-taps false t i e = refl
 
 -- ---- what a kernel gives
 

@@ -1,11 +1,13 @@
 -- A segment of samples next to one another: a window. A part of a list that is lent to a kernel and comes back is a segment of the whole list.
-use Rattle.std.proofs.Common.{◌≡◌, ℕ, zero, suc, ◌+◌, ◌-◌, ◌<◌, ◌≤◌, Bool, cond, List, [], ◌∷◌, ◌++◌, length, get_or, take, drop, set, sym, refl, ap, ◌∙◌, ap₂, append_assoc, le-add_right, add-zero, add-suc, zero-add, suc-ne-zero, add-one, arith, length-drop, length-take-le, get_or-drop, take_all, drop-cons, get_or-take, take-suc, drop-set-lt, le-leb}
+use Rattle.std.proofs.Common.{◌≡◌, le_refl, ℕ, zero, suc, ◌+◌, ◌-◌, ◌<◌, ◌≤◌, Bool, cond, List, [], ◌∷◌, ◌++◌, length, get_or, take, drop, set, sym, refl, ap, ◌∙◌, ap₂, append_assoc, le-add_right, add-zero, add-suc, zero-add, suc-ne-zero, add-one, arith, length-drop, length-take-le, get_or-drop, take_all, drop-cons, get_or-take, take-suc, drop-set-lt, le-leb, leb, leb-true, leb-false, true, false}
 use mathlib.Core.Path.{fun_ext}
 use native.Mathlib.Nat.{suc_inj}
+use borrow.Author.Tests.{lt-leb}
 use lib.Seq.{sets, sets-eq, take-set-le, take-set-lt, drop-set-add}
 use borrow.Rule.Slice.PartMut.{mid_of, put_mid, put_same, mid_len}
 use Rattle.arithmetic.specs.Outcome.{gives, refuses}
-use Rattle.kernels.specs.Segment.{Kernel, taps, smooth, gather, scatter, segment, passes_at, fits_at, windowed, window_answer}
+use Rattle.kernels.specs.Segment.{Kernel, half, taps, smooth, gather, scatter, segment, passes_at, fits_at, windowed, window_answer, adjust_answer}
+use Rattle.kernels.specs.Kernels.{adjustment}
 use Rattle.kernels.proofs.KernelLaws.{half-least, keeps}
 use Rattle.kernels.proofs.SegmentLaws.{stored, segment-is, stored_same, passes_same, length-stored}
 
@@ -76,6 +78,96 @@ pub windowed-lent :
     → put_mid a (e - a) xs ys ≡ segment k (λ t. a + t) xs
 windowed-lent k a e xs ys ee fit ey =
     window-lent k a e xs ys ee (ey ∙ windowed-fits k (mid_of a (e - a) xs) 0 (omega (arith, mid_len a e xs fit)))
+
+-- ---- the first samples of a list, lent as an array
+
+module _ (k : Kernel) (l : List ℕ) where
+  lent-first : taps k ≤ length l → (ys m : List ℕ) → ys ≡ segment k (λ t. t) (take (taps k) l) → m ≡ ys ++ drop (taps k) l → m ≡ windowed k l 0
+  lent-first fit ys m ey em =
+      em ∙ ap (λ (zs : List ℕ). zs ++ drop (taps k) l) ey
+      ∙ segment-lent k 0 (taps k) (λ t. t) l (λ t h. h) ∙ sym (windowed-fits k l 0 (omega (arith, fit)))
+
+  answer-first : taps k ≤ length l → (r : Bool) → r ≡ passes_at k (λ t. t) (take (taps k) l) → gives r ≡ window_answer k l 0
+  answer-first fit r er =
+      ap gives (er ∙ passes_same k (λ t. t) (λ t. 0 + t) (take (taps k) l) l (λ t h. get_or-take (taps k) l t 0 h ∙ ap (λ (i : ℕ). get_or l i 0) (sym (zero-add t))))
+      ∙ sym (answer-fits k l 0 (omega (arith, fit)))
+
+  module _ (n : ℕ) (en : taps k ≡ n) (fit : n ≤ length l) (w : List ℕ) (ew : w ≡ take n l) where
+    pub first-lent : (ys m : List ℕ) → ys ≡ segment k (λ t. t) w → m ≡ ys ++ drop n l → m ≡ windowed k l 0
+    first-lent ys m ey em =
+        lent-first (omega (arith, en, fit)) ys m (ey ∙ ap (segment k (λ t. t)) (ew ∙ ap (λ (i : ℕ). take i l) (sym en))) (em ∙ ap (λ (i : ℕ). ys ++ drop i l) (sym en))
+
+    pub first-answer : (r : Bool) → r ≡ passes_at k (λ t. t) w → gives r ≡ window_answer k l 0
+    first-answer r er = answer-first (omega (arith, en, fit)) r (er ∙ ap (passes_at k (λ t. t)) (ew ∙ ap (λ (i : ℕ). take i l) (sym en)))
+
+pub first-adjust : (o : Bool) (l w : List ℕ) → 4 ≤ length l → w ≡ take 4 l
+    → gives (adjustment o (get_or w 0 0) (get_or w 1 0) (get_or w 2 0) (get_or w 3 0)) ≡ adjust_answer o l 0
+unfolding adjust_answer fits_at taps half
+first-adjust o l w fit e =
+    ap (λ (v : List ℕ). gives (adjustment o (get_or v 0 0) (get_or v 1 0) (get_or v 2 0) (get_or v 3 0))) e
+    ∙ (λ i. gives (adjustment o (get_or-take 4 l 0 0 (omega arith) i) (get_or-take 4 l 1 0 (omega arith) i) (get_or-take 4 l 2 0 (omega arith) i) (get_or-take 4 l 3 0 (omega arith) i)))
+    ∙ sym (ap (λ (b : Bool). cond b (gives (adjustment o (get_or l 0 0) (get_or l 1 0) (get_or l 2 0) (get_or l 3 0))) (refuses 4)) (le-leb 4 (length l) fit))
+
+-- ---- the rest of a list from base on, lent
+
+abbrev pub rest_of : (base : ℕ) → List ℕ → List ℕ
+rest_of base l = mid_of base (length l - base) l
+
+fits-rest : (n base : ℕ) (l : List ℕ) → base ≤ length l → leb (0 + n) (length (rest_of base l)) ≡ leb (base + n) (length l)
+fits-rest n base l within = pick (leb (base + n) (length l)) refl
+  where
+    long : length (rest_of base l) ≡ length l - base
+    long = mid_len base (length l) l (le_refl (length l))
+
+    pick : (b : Bool) → leb (base + n) (length l) ≡ b → leb (0 + n) (length (rest_of base l)) ≡ b
+    pick true e = le-leb (0 + n) (length (rest_of base l)) (omega (arith, long, leb-true (base + n) (length l) e))
+    pick false e = lt-leb (0 + n) (length (rest_of base l)) (omega (arith, long, within, leb-false (base + n) (length l) e))
+
+rest-tap : (base : ℕ) (l : List ℕ) (t : ℕ) → base + t < length l → get_or (rest_of base l) (0 + t) 0 ≡ get_or l (base + t) 0
+rest-tap base l t h =
+    ap (λ (i : ℕ). get_or (rest_of base l) i 0) (zero-add t)
+    ∙ get_or-take (length l - base) (drop base l) t 0 (omega (arith, h)) ∙ get_or-drop base l t 0
+
+module _ (base : ℕ) (l : List ℕ) (within : base ≤ length l) where
+  pub rest-window : (k : Kernel) (m : List ℕ) → m ≡ windowed k (rest_of base l) 0 → put_mid base (length l - base) l m ≡ windowed k l base
+  unfolding windowed fits_at
+  rest-window k m e =
+      ap (put_mid base (length l - base) l) (e ∙ ap (λ (b : Bool). cond b (segment k (λ t. 0 + t) (rest_of base l)) (rest_of base l)) (fits-rest (taps k) base l within))
+      ∙ pick (leb (base + taps k) (length l)) refl
+    where
+      pick : (b : Bool) → leb (base + taps k) (length l) ≡ b
+          → put_mid base (length l - base) l (cond b (segment k (λ t. 0 + t) (rest_of base l)) (rest_of base l)) ≡ cond b (segment k (λ t. base + t) l) l
+      pick true f =
+          segment-lent k base (length l - base) (λ t. 0 + t) l (λ t h. omega (arith, h, leb-true (base + taps k) (length l) f))
+          ∙ segment-at k (λ t. base + (0 + t)) (λ t. base + t) l (λ t. ap (λ (i : ℕ). base + i) (zero-add t))
+      pick false f = put_same base (length l - base) l
+
+  pub rest-answer : (k : Kernel) → window_answer k (rest_of base l) 0 ≡ window_answer k l base
+  unfolding window_answer fits_at
+  rest-answer k =
+      ap (λ (b : Bool). cond b (gives (passes_at k (λ t. 0 + t) (rest_of base l))) (refuses 4)) (fits-rest (taps k) base l within)
+      ∙ pick (leb (base + taps k) (length l)) refl
+    where
+      pick : (b : Bool) → leb (base + taps k) (length l) ≡ b → cond b (gives (passes_at k (λ t. 0 + t) (rest_of base l))) (refuses 4) ≡ cond b (gives (passes_at k (λ t. base + t) l)) (refuses 4)
+      pick true f = ap gives (passes_same k (λ t. 0 + t) (λ t. base + t) (rest_of base l) l (λ t h. rest-tap base l t (omega (arith, h, leb-true (base + taps k) (length l) f))))
+      pick false f = refl
+
+  pub rest-adjust : (o : Bool) → adjust_answer o (rest_of base l) 0 ≡ adjust_answer o l base
+  unfolding adjust_answer fits_at taps half
+  rest-adjust o =
+      ap (λ (b : Bool). cond b (gives (adjustment o (x 0) (x 1) (x 2) (x 3))) (refuses 4)) (fits-rest 4 base l within)
+      ∙ pick (leb (base + 4) (length l)) refl
+    where
+      x : ℕ → ℕ
+      x t = get_or (rest_of base l) t 0
+
+      pick : (b : Bool) → leb (base + 4) (length l) ≡ b → cond b (gives (adjustment o (x 0) (x 1) (x 2) (x 3))) (refuses 4)
+          ≡ cond b (gives (adjustment o (get_or l base 0) (get_or l (base + 1) 0) (get_or l (base + 2) 0) (get_or l (base + 3) 0))) (refuses 4)
+      pick true f =
+          let fit : base + 4 ≤ length l = leb-true (base + 4) (length l) f in
+          let first : x 0 ≡ get_or l base 0 = rest-tap base l 0 (omega (arith, fit)) ∙ ap (λ (i : ℕ). get_or l i 0) (add-zero base) in
+          λ i. gives (adjustment o (first i) (rest-tap base l 1 (omega (arith, fit)) i) (rest-tap base l 2 (omega (arith, fit)) i) (rest-tap base l 3 (omega (arith, fit)) i))
+      pick false f = refl
 
 -- ---- a window is taken out, given to the kernel and put back
 

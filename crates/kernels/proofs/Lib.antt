@@ -3,6 +3,8 @@ pub mod SignedBytes
 pub mod Apart
 pub mod Cuts
 pub mod Plain
+pub mod Stores
+pub mod MovedTaps
 pub mod Sums
 pub mod Windows
 pub mod Filtered

@@ -12,6 +12,10 @@ pub data Kernel : Type 0 where
   subblock_filter : (threshold interior edge : ℕ) → Kernel
   mb_filter : (threshold interior edge : ℕ) → Kernel
 
+-- the two normal kernels, of which mb_filter is the wide one
+abbrev pub normal : (wide : Bool) (threshold interior edge : ℕ) → Kernel
+normal wide threshold interior edge = cond wide (mb_filter threshold interior edge) (subblock_filter threshold interior edge)
+
 -- how many samples it takes on each side of the edge
 unfoldable pub half : Kernel → ℕ
 half (common_adjust outer) = 2

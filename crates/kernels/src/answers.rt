@@ -1,7 +1,7 @@
-// Why a kernel is refused. `specs/Answers.antt` gives the case its number in document 01.
+// Why a kernel is refused, with its number in document 01.
 #[derive(Clone, Copy, Debug, PartialEq, Eq)]
 pub enum KernelRefusal {
-    NoWindow,
+    NoWindow = 4,
 }
 
 impl From<KernelRefusal> for u8 {
@@ -11,8 +11,6 @@ impl From<KernelRefusal> for u8 {
     ghost from_gives = { λ refusal n. n ≡ kernel_refusal_number refusal };
 
     fn from(refusal: KernelRefusal) -> u8 {
-        match refusal {
-            KernelRefusal::NoWindow => 4,
-        }
+        refusal as u8
     }
 }

@@ -3,6 +3,8 @@
 
 pub mod answers;
 mod bounds;
+pub mod limits;
+mod moves;
 mod near;
 mod passed;
 pub mod segments;

@@ -1,11 +1,12 @@
-// RFC 6386, sections 15.2 and 15.3: the kernels on the window of a slice that starts at `base`.
-ghost use Rattle.std.specs.Prelude.{◌≡◌, ◌+◌, ◌≤◌, length, nat_le, slice_index};
+// RFC 6386, sections 15.2 and 15.3: the kernels on the window of a slice that starts at `base`, as document 01 has callers name it.
+ghost use Rattle.std.specs.Prelude.{◌≡◌, ◌+◌, nat_le};
 ghost use Rattle.kernels.specs.Answers.{adjust_outcome, kernel_outcome};
-ghost use Rattle.kernels.specs.Kernels.{adjustment, simple_yes};
-ghost use Rattle.kernels.specs.Segment.{common_adjust, simple_segment, subblock_filter, mb_filter, segment, windowed, window_answer, adjust_answer};
+ghost use Rattle.kernels.specs.Segment.{common_adjust, simple_segment, passes_at, segment, normal, windowed, window_answer, adjust_answer};
 
 use crate::answers::KernelRefusal;
-use crate::passed::{mb_filter_passed, subblock_filter_passed};
+use crate::limits::EdgeLimits;
+use crate::passed::passed;
+use crate::taps::near_of;
 use crate::values::simple_yes;
 use crate::whole::adjust;
 
@@ -13,23 +14,20 @@ use crate::whole::adjust;
 pub fn has_window(n: usize, taps: usize, base: usize) -> bool
     ensures { result ≡ nat_le (base + taps) n }
 {
-    if n < taps {
-        return false;
-    }
-    base <= n - taps
+    n.checked_sub(taps).is_some_and(|last| base <= last)
 }
 
-// The window p1 p0 q0 q1 at base, which fits.
-fn common_adjust_at(outer: bool, seg: &mut [u8], base: usize) -> i64
-    requires { base + 4 ≤ length seg.old }
-    ensures value { result ≡ adjustment outer (slice_index seg.old base) (slice_index seg.old (base + 1)) (slice_index seg.old (base + 2)) (slice_index seg.old (base + 3)) }
-    ensures seg_after { seg.new ≡ segment (common_adjust outer) (λ t. base + t) seg.old }
+// common_adjust on the first samples of a slice.
+#[tactic(auto, unfolding(crate::specs::Segment::adjust_answer, crate::specs::Segment::windowed, crate::specs::Segment::fits_at, crate::specs::Segment::taps, crate::specs::Segment::half))]
+fn adjust_first(outer: bool, seg: &mut [u8]) -> Result<i32, KernelRefusal>
+    ensures result_value { adjust_outcome result ≡ adjust_answer outer seg.old 0 }
+    ensures seg_after { seg.new ≡ windowed (common_adjust outer) seg.old 0 }
 {
-    let p1 = seg[base];
-    let p0 = seg[base + 1];
-    let q0 = seg[base + 2];
-    let q1 = seg[base + 3];
-    adjust(outer, seg, base + 1, p1, p0, q0, q1)
+    let Some(window) = seg.first_chunk_mut::<4>() else {
+        return Err(KernelRefusal::NoWindow);
+    };
+    let taps = near_of(window);
+    Ok(adjust(outer, window, taps) as i32)
 }
 
 #[tactic(auto, unfolding(crate::specs::Segment::adjust_answer, crate::specs::Segment::windowed, crate::specs::Segment::fits_at, crate::specs::Segment::taps, crate::specs::Segment::half))]
@@ -41,28 +39,34 @@ pub fn common_adjust(
     ensures result_value { adjust_outcome result ≡ adjust_answer use_outer_taps seg.old base }
     ensures seg_after { seg.new ≡ windowed (common_adjust use_outer_taps) seg.old base }
 {
-    if has_window(seg.len(), 4, base) {
-        Ok(common_adjust_at(use_outer_taps, seg, base) as i32)
-    } else {
-        Err(KernelRefusal::NoWindow)
+    if base > seg.len() {
+        return Err(KernelRefusal::NoWindow);
     }
+    adjust_first(use_outer_taps, &mut seg[base..])
 }
 
-// The window p1 p0 q0 q1 at base, which fits. The answer: whether the test passed.
-fn simple_segment_passed(edge: u8, seg: &mut [u8], base: usize) -> bool
-    requires { base + 4 ≤ length seg.old }
-    ensures value { result ≡ simple_yes edge (slice_index seg.old base) (slice_index seg.old (base + 1)) (slice_index seg.old (base + 2)) (slice_index seg.old (base + 3)) }
-    ensures seg_after { seg.new ≡ segment (simple_segment edge) (λ t. base + t) seg.old }
+// simple_segment on a window. The answer: whether its test passed.
+fn simple_passed(edge: u8, window: &mut [u8; 4]) -> bool
+    ensures value { result ≡ passes_at (simple_segment edge) (λ t. t) window.old }
+    ensures window_after { window.new ≡ segment (simple_segment edge) (λ t. t) window.old }
 {
-    let p1 = seg[base];
-    let p0 = seg[base + 1];
-    let q0 = seg[base + 2];
-    let q1 = seg[base + 3];
-    if simple_yes(edge, p1, p0, q0, q1) {
-        adjust(true, seg, base + 1, p1, p0, q0, q1);
-        true
-    } else {
-        false
+    let w = near_of(window);
+    let passes = simple_yes(edge, w);
+    if passes {
+        adjust(true, window, w);
+    }
+    passes
+}
+
+// And on the first samples of a slice. What follows for the normal kernels has their limits, their window and their answer in each line.
+#[tactic(auto, unfolding(crate::specs::Segment::window_answer, crate::specs::Segment::windowed, crate::specs::Segment::fits_at, crate::specs::Segment::taps, crate::specs::Segment::half))]
+fn simple_first(edge: u8, seg: &mut [u8]) -> Result<bool, KernelRefusal>
+    ensures result_value { kernel_outcome result ≡ window_answer (simple_segment edge) seg.old 0 }
+    ensures seg_after { seg.new ≡ windowed (simple_segment edge) seg.old 0 }
+{
+    match seg.first_chunk_mut::<4>() {
+        Some(window) => Ok(simple_passed(edge, window)),
+        None => Err(KernelRefusal::NoWindow),
     }
 }
 
@@ -71,45 +75,35 @@ pub fn simple_segment(edge_limit: u8, seg: &mut [u8], base: usize) -> Result<boo
     ensures result_value { kernel_outcome result ≡ window_answer (simple_segment edge_limit) seg.old base }
     ensures seg_after { seg.new ≡ windowed (simple_segment edge_limit) seg.old base }
 {
-    if has_window(seg.len(), 4, base) {
-        Ok(simple_segment_passed(edge_limit, seg, base))
-    } else {
-        Err(KernelRefusal::NoWindow)
+    if base > seg.len() {
+        return Err(KernelRefusal::NoWindow);
+    }
+    simple_first(edge_limit, &mut seg[base..])
+}
+
+// mb_filter, which is wide, or subblock_filter, on the first samples of a slice.
+#[tactic(auto, unfolding(crate::specs::Segment::window_answer, crate::specs::Segment::windowed, crate::specs::Segment::fits_at, crate::specs::Segment::taps, crate::specs::Segment::half))]
+fn normal_first<const WIDE: bool>(limits: EdgeLimits, seg: &mut [u8]) -> Result<bool, KernelRefusal>
+    ensures result_value { kernel_outcome result ≡ window_answer (normal WIDE limits.threshold limits.interior limits.limit) seg.old 0 }
+    ensures seg_after { seg.new ≡ windowed (normal WIDE limits.threshold limits.interior limits.limit) seg.old 0 }
+{
+    match seg.first_chunk_mut::<8>() {
+        Some(window) => Ok(passed::<WIDE>(limits, window)),
+        None => Err(KernelRefusal::NoWindow),
     }
 }
 
 #[tactic(auto, unfolding(crate::specs::Segment::window_answer, crate::specs::Segment::windowed, crate::specs::Segment::fits_at, crate::specs::Segment::taps, crate::specs::Segment::half))]
-pub fn subblock_filter(
-    hev_threshold: u8,
-    interior_limit: u8,
-    edge_limit: u8,
+pub fn normal_filter<const WIDE: bool>(
+    limits: EdgeLimits,
     seg: &mut [u8],
     base: usize,
 ) -> Result<bool, KernelRefusal>
-    ensures result_value { kernel_outcome result ≡ window_answer (subblock_filter hev_threshold interior_limit edge_limit) seg.old base }
-    ensures seg_after { seg.new ≡ windowed (subblock_filter hev_threshold interior_limit edge_limit) seg.old base }
+    ensures result_value { kernel_outcome result ≡ window_answer (normal WIDE limits.threshold limits.interior limits.limit) seg.old base }
+    ensures seg_after { seg.new ≡ windowed (normal WIDE limits.threshold limits.interior limits.limit) seg.old base }
 {
-    if has_window(seg.len(), 8, base) {
-        Ok(subblock_filter_passed(hev_threshold, interior_limit, edge_limit, seg, base))
-    } else {
-        Err(KernelRefusal::NoWindow)
+    if base > seg.len() {
+        return Err(KernelRefusal::NoWindow);
     }
-}
-
-#[tactic(auto, unfolding(crate::specs::Segment::window_answer, crate::specs::Segment::windowed, crate::specs::Segment::fits_at, crate::specs::Segment::taps, crate::specs::Segment::half))]
-pub fn mb_filter(
-    hev_threshold: u8,
-    interior_limit: u8,
-    edge_limit: u8,
-    seg: &mut [u8],
-    base: usize,
-) -> Result<bool, KernelRefusal>
-    ensures result_value { kernel_outcome result ≡ window_answer (mb_filter hev_threshold interior_limit edge_limit) seg.old base }
-    ensures seg_after { seg.new ≡ windowed (mb_filter hev_threshold interior_limit edge_limit) seg.old base }
-{
-    if has_window(seg.len(), 8, base) {
-        Ok(mb_filter_passed(hev_threshold, interior_limit, edge_limit, seg, base))
-    } else {
-        Err(KernelRefusal::NoWindow)
-    }
+    normal_first::<WIDE>(limits, &mut seg[base..])
 }

@@ -1,34 +1,45 @@
-// The samples of a window of eight, read at once.
-ghost use Rattle.std.specs.Prelude.{◌≡◌, ◌+◌, ◌≤◌, length};
+// The samples of a window, read at once.
+ghost use Rattle.std.specs.Prelude.{◌≡◌};
 ghost use Rattle.kernels.specs.Private.Taps as spec;
 
 use crate::near::both_near;
 
+// A segment p1 p0 | q0 q1, as stored. The taps of `edges::position` are signed numbers with a bound of their own, and no instance of these.
 #[derive(Clone, Copy)]
-pub(crate) struct Taps {
-    pub p3: u8,
-    pub p2: u8,
+pub(crate) struct Near {
     pub p1: u8,
     pub p0: u8,
     pub q0: u8,
     pub q1: u8,
+}
+
+// A segment p3 .. p0 | q0 .. q3, of which p1 p0 | q0 q1 is `near`.
+#[derive(Clone, Copy)]
+pub(crate) struct Taps {
+    pub p3: u8,
+    pub p2: u8,
+    pub near: Near,
     pub q2: u8,
     pub q3: u8,
 }
 
-pub(crate) fn taps_at(seg: &[u8], base: usize) -> Taps
-    requires { base + 8 ≤ length seg.now }
-    ensures { result ≡ spec.taps_at seg.now base }
+pub(crate) fn near_of(window: &[u8; 4]) -> Near
+    ensures { result ≡ spec.near_of window.now }
 {
+    let [p1, p0, q0, q1] = *window;
+    Near { p1, p0, q0, q1 }
+}
+
+pub(crate) fn taps_of(window: &[u8; 8]) -> Taps
+    ensures { result ≡ spec.taps_of window.now }
+{
+    let [p3, p2, p1, p0, q0, q1, q2, q3] = *window;
     Taps {
-        p3: seg[base],
-        p2: seg[base + 1],
-        p1: seg[base + 2],
-        p0: seg[base + 3],
-        q0: seg[base + 4],
-        q1: seg[base + 5],
-        q2: seg[base + 6],
-        q3: seg[base + 7],
+        p3,
+        p2,
+        near: Near { p1, p0, q0, q1 },
+        q2,
+        q3,
     }
 }
 
@@ -36,5 +47,5 @@ pub(crate) fn taps_at(seg: &[u8], base: usize) -> Taps
 pub(crate) fn outer_near(interior: u8, w: Taps) -> bool
     ensures { result ≡ spec.outer_near interior w }
 {
-    both_near(w.p2, w.p3, w.p1, interior) & both_near(w.q2, w.q3, w.q1, interior)
+    both_near(w.p2, w.p3, w.near.p1, interior) & both_near(w.q2, w.q3, w.near.q1, interior)
 }

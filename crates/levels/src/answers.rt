@@ -1,9 +1,7 @@
-// Why a level is refused. `specs/Answers.antt` gives the case its number in document 01.
-
-// A byte of an entry that stands for no case.
+// Why a level is refused, with its number in document 01: a byte of an entry stands for no case.
 #[derive(Clone, Copy, Debug, PartialEq, Eq)]
 pub enum LevelRefusal {
-    BadEntry,
+    BadEntry = 6,
 }
 
 impl From<LevelRefusal> for u8 {
@@ -13,8 +11,6 @@ impl From<LevelRefusal> for u8 {
     ghost from_gives = { λ refusal n. n ≡ level_refusal_number refusal };
 
     fn from(refusal: LevelRefusal) -> u8 {
-        match refusal {
-            LevelRefusal::BadEntry => 6,
-        }
+        refusal as u8
     }
 }

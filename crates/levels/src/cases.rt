@@ -26,7 +26,7 @@ impl TryFrom<u8> for IntraYMode {
     }
 }
 
-// 0 stands for no reference.
+// 0 stands for no reference. No TryFrom: an impl of it for an Option is only std's to write.
 #[tactic(auto, unfolding(crate::specs::Encodings::reference_case))]
 pub fn reference_case(byte: u8) -> Result<Option<RefFrame>, LevelRefusal>
     ensures { result ≡ reference_case byte }
@@ -40,7 +40,7 @@ pub fn reference_case(byte: u8) -> Result<Option<RefFrame>, LevelRefusal>
     }
 }
 
-// 0 stands for no inter mode.
+// 0 stands for no inter mode. No TryFrom either.
 #[tactic(auto, unfolding(crate::specs::Encodings::inter_mode_case))]
 pub fn inter_mode_case(byte: u8) -> Result<Option<InterMode>, LevelRefusal>
     ensures { result ≡ inter_mode_case byte }

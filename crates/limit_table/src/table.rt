@@ -75,6 +75,7 @@ pub fn copy_interior_limits(into: &mut [u8]) -> usize
 {
     let n = into.len().min(512);
     let table = interior_limits();
+    // i is a byte of the slice and of the table, which has rows.
     for i in 0..n {
         let row = table[i / 64];
         into[i] = row[i % 64];

@@ -8,6 +8,7 @@ ghost use Rattle.loop_filter.specs.Returned.{Returned, PassedReturned};
 use edges::normal::{MacroblockEdge, SubblockEdge};
 use edges::windows::filter_window;
 use kernels::answers::KernelRefusal;
+use kernels::limits::EdgeLimits;
 
 // Returns 0 and puts 1 where the test passed and 0 where it did not, or returns the number of the refusal.
 fn put_passed(answer: Result<bool, KernelRefusal>, passed: &mut u8) -> u8
@@ -68,13 +69,12 @@ pub extern "C" fn vp8lf_subblock_filter(
     ensures passed_returned { PassedReturned (window_answer (subblock_filter hev_threshold interior_limit edge_limit) seg.old base) result passed.old passed.new }
     ensures seg_after { seg.new ≡ windowed (subblock_filter hev_threshold interior_limit edge_limit) seg.old base }
 {
-    let answer = filter_window::<SubblockEdge>(
-        hev_threshold,
-        interior_limit,
-        edge_limit,
-        seg,
-        base,
-    );
+    let limits = EdgeLimits {
+        threshold: hev_threshold,
+        interior: interior_limit,
+        limit: edge_limit,
+    };
+    let answer = filter_window::<SubblockEdge>(limits, seg, base);
     put_passed(answer, passed)
 }
 
@@ -90,12 +90,11 @@ pub extern "C" fn vp8lf_mb_filter(
     ensures passed_returned { PassedReturned (window_answer (mb_filter hev_threshold interior_limit edge_limit) seg.old base) result passed.old passed.new }
     ensures seg_after { seg.new ≡ windowed (mb_filter hev_threshold interior_limit edge_limit) seg.old base }
 {
-    let answer = filter_window::<MacroblockEdge>(
-        hev_threshold,
-        interior_limit,
-        edge_limit,
-        seg,
-        base,
-    );
+    let limits = EdgeLimits {
+        threshold: hev_threshold,
+        interior: interior_limit,
+        limit: edge_limit,
+    };
+    let answer = filter_window::<MacroblockEdge>(limits, seg, base);
     put_passed(answer, passed)
 }

@@ -38,11 +38,7 @@ impl PictureMut<'_> {
         ensures u_length { result.u ≡ length self.now.u.now }
         ensures v_length { result.v ≡ length self.now.v.now }
     {
-        PlaneLengths {
-            y: self.y.len(),
-            u: self.u.len(),
-            v: self.v.len(),
-        }
+        self.read().lengths()
     }
 
     // The same planes, for reading.

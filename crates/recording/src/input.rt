@@ -1,5 +1,6 @@
 // The numbers of a recorded call, the settings and the answer. Numbers have their smallest byte first.
-// A recording that ends within a record is an error of the program.
+ghost use Rattle.std.specs.Prelude.{◌≡◌, Ok, Err, IfNone, IfSome};
+
 use levels::config::FrameFilterConfig;
 use planes::layout::PlaneLayout;
 use std::io;
@@ -34,22 +35,18 @@ pub fn read_size(rt: &impl Input) -> io::Result<usize> {
     }
 }
 
-// Written 2147483648 above its value.
+// A signed number is written as far above 0 as its value is above the type's smallest. One function for each type: their bytes and smallest numbers are in no trait of std, and one of our own would need an impl for each type.
+
 pub fn read_i32(rt: &impl Input) -> io::Result<i32> {
-    let n = u32::from_le_bytes(read_array(rt)?);
-    Ok((i64::from(n) - 2147483648) as i32)
+    Ok(i32::from_le_bytes(read_array(rt)?).wrapping_add(i32::MIN))
 }
 
-// Written 32768 above its value.
 pub fn read_i16(rt: &impl Input) -> io::Result<i16> {
-    let n = read_u16(rt)?;
-    Ok((i32::from(n) - 32768) as i16)
+    Ok(i16::from_le_bytes(read_array(rt)?).wrapping_add(i16::MIN))
 }
 
-// Written 128 above its value.
 pub fn read_i8(rt: &impl Input) -> io::Result<i8> {
-    let n = read_u8(rt)?;
-    Ok((i16::from(n) - 128) as i8)
+    Ok(i8::from_le_bytes(read_array(rt)?).wrapping_add(i8::MIN))
 }
 
 // Where and how a call works.
@@ -99,19 +96,37 @@ pub fn read_settings(rt: &impl Input) -> io::Result<FrameFilterConfig> {
     })
 }
 
-// A recorded answer: a refusal by its number, or 0, and then two numbers.
-pub fn read_recorded(rt: &impl Input) -> io::Result<Result<(usize, usize), u8>> {
-    let refusal = read_u8(rt)?;
-    let first = read_size(rt)?;
-    let second = read_size(rt)?;
-    Ok(recorded(refusal, (first, second)))
+// What a call answered: the number of its refusal, if it was refused, and a value, which is there in either case.
+#[derive(Clone, Copy, PartialEq, Eq)]
+pub struct Recorded<T> {
+    pub refusal: Option<u8>,
+    pub value: T,
 }
 
-// The number of a refusal, or 0 for the value.
-pub fn recorded<T: Copy>(refusal: u8, value: T) -> Result<T, u8> {
-    if refusal == 0 {
-        Ok(value)
-    } else {
-        Err(refusal)
+impl<T: Copy> Recorded<T> {
+    // A refused call gave no value.
+    pub fn answer(self) -> Result<T, u8>
+        ensures value { IfNone self.refusal (result ≡ Ok self.value) }
+        ensures refused { IfSome self.refusal (λ number. result ≡ Err number) }
+    {
+        match self.refusal {
+            None => Ok(self.value),
+            Some(number) => Err(number),
+        }
     }
+}
+
+// The number of a refusal, or 0.
+pub fn read_refusal(rt: &impl Input) -> io::Result<Option<u8>> {
+    match read_u8(rt)? {
+        0 => Ok(None),
+        number => Ok(Some(number)),
+    }
+}
+
+pub fn read_recorded(rt: &impl Input) -> io::Result<Recorded<(usize, usize)>> {
+    Ok(Recorded {
+        refusal: read_refusal(rt)?,
+        value: (read_size(rt)?, read_size(rt)?),
+    })
 }

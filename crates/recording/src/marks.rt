@@ -1,17 +1,21 @@
-// What a program writes: a line for each section, with a mark for each call.
-use crate::input::read_u16;
-use std::io;
-use std::io::Read;
+// What a program writes: a line for each section, with a mark for each call of its records. A call that the input ends in is marked as one that was not answered as recorded.
+ghost use Rattle.std.specs.Prelude.{◌≡◌, ◌≢◌, Ok, Err, Some, None, IfOk, IfErr};
+ghost use Rattle.std.specs.IoError.{error_kind};
+ghost use Rattle.std.specs.declared.io.ErrorKind.TheVariants.{UnexpectedEof};
 
-// Whether a call was answered as recorded: with the value, or with the number of its refusal.
-pub fn answered<T: PartialEq + Copy, E: Into<u8> + Copy>(
-    answer: Result<T, E>,
-    recorded: Result<T, u8>,
-) -> bool {
-    match (answer, recorded) {
-        (Ok(value), Ok(wanted)) => value == wanted,
-        (Err(refusal), Err(number)) => refusal.into() == number,
-        (Ok(_), Err(_)) | (Err(_), Ok(_)) => false,
+use std::io;
+use std::io::{ErrorKind, Read};
+
+// Nothing where the input ended within what was read.
+pub fn if_whole<T>(read: io::Result<T>) -> io::Result<Option<T>>
+    ensures whole { IfOk read (λ value. result ≡ Ok (Some value)) }
+    ensures ended { IfErr read (λ e. error_kind e ≡ UnexpectedEof → result ≡ Ok None) }
+    ensures failed { IfErr read (λ e. error_kind e ≢ UnexpectedEof → result ≡ Err e) }
+{
+    match read {
+        Ok(value) => Ok(Some(value)),
+        Err(e) if e.kind() == ErrorKind::UnexpectedEof => Ok(None),
+        Err(e) => Err(e),
     }
 }
 
@@ -20,19 +24,26 @@ pub fn mark(rt: &impl Print, same: bool) -> io::Result<()> {
     print!(rt; "{}", if same { '.' } else { 'x' })
 }
 
-// A line: its name, and the marks of its records, whose count the input has before them, two bytes.
-pub fn section<F: Fn() -> io::Result<bool>>(
-    rt: &(impl Input + Print),
-    name: &str,
-    replay: F,
-) -> io::Result<()>
-    requires { F.IsAlwaysCallable replay }
-{
-    print!(rt; "{name} ")?;
-    for _ in 0..read_u16(rt)? {
-        mark(rt, replay()?)?;
+// The marks of a record: its last, or all of them where the input ended in it before the first.
+pub fn mark_record(rt: &impl Print, marks: usize, last: io::Result<bool>) -> io::Result<()> {
+    let (same, count) = match if_whole(last)? {
+        Some(same) => (same, 1),
+        None => (false, marks),
+    };
+    for _ in 0..count {
+        mark(rt, same)?;
     }
-    println!(rt)
+    Ok(())
+}
+
+// Begins a line by its name. The input has the count of the section's records before them, two bytes; where it ends in them, a mark says so, and those that are there count.
+pub fn begin_section(rt: &(impl Input + Print), name: &str) -> io::Result<u16> {
+    print!(rt; "{name} ")?;
+    let mut count = [0u8; 2];
+    if if_whole(rt.reader().read_exact(&mut count))?.is_none() {
+        mark(rt, false)?;
+    }
+    Ok(u16::from_le_bytes(count))
 }
 
 // The last line: whether the input ends here.

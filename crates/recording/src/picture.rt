@@ -1,6 +1,8 @@
 // Pictures and byte lists as recorded, by their sizes.
+ghost use Rattle.recording.specs.Stripes.{IsStriped};
+
 use crate::input::read_array;
-use std::io;
+use std::{array, io};
 
 // Three planes. They can be longer than the grids of recorded calls need, so that strides can be wider, and differ in length, so that one alone can be too short.
 #[derive(Clone, Copy, PartialEq, Eq)]
@@ -23,19 +25,18 @@ pub fn read_planes<const Y: usize, const U: usize, const V: usize>(
     })
 }
 
-// Nothing flat, so that filtering shows.
-fn stripe<const N: usize>() -> [u8; N] {
-    let mut plane = [100u8; N];
-    for (i, sample) in plane.iter_mut().enumerate() {
-        if i % 7 >= 3 {
-            *sample = 108;
-        }
-    }
-    plane
+fn stripe<const N: usize>() -> [u8; N]
+    ensures { IsStriped result }
+{
+    array::from_fn(|i| if i % 7 < 3 { 100 } else { 108 })
 }
 
 // What a call that changes nothing is lent.
-pub fn stripes<const Y: usize, const U: usize, const V: usize>() -> Planes<Y, U, V> {
+pub fn stripes<const Y: usize, const U: usize, const V: usize>() -> Planes<Y, U, V>
+    ensures y { IsStriped result.y }
+    ensures u { IsStriped result.u }
+    ensures v { IsStriped result.v }
+{
     Planes {
         y: stripe(),
         u: stripe(),
@@ -43,7 +44,7 @@ pub fn stripes<const Y: usize, const U: usize, const V: usize>() -> Planes<Y, U,
     }
 }
 
-// Document 01's byte lists, for N macroblocks.
+// Document 01's byte lists, for N macroblocks. Five lists and no list of entries, since so the passes are lent them.
 #[derive(Clone, Copy)]
 pub struct Lists<const N: usize> {
     pub modes: [u8; N],

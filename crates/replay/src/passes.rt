@@ -1,29 +1,67 @@
-// The passes and frame calls. Each function replays one recorded call, or two.
-use crate::records::read_records;
+// The passes and frame calls. Each record is one recorded call, or two.
+ghost use Rattle.std.specs.Prelude.{◌≤◌};
+
+use crate::records::Records;
 use calls::answers::PassRefusal;
-use calls::records::MacroblockModes;
 use frame::entries::{InterLists, InterRecords, KeyLists, KeyRecords};
 use frame::pass::filter_frame;
 use frame_calls::frame_call::loop_filter_frame;
 use judge::entries::Entries;
 use levels::config::FrameFilterConfig;
 use planes::picture::PictureMut;
-use recording::input::{Place, read_place, read_recorded, read_settings};
-use recording::marks::{answered, mark};
+use recording::input::{Place, Recorded, read_place, read_recorded, read_settings};
+use recording::marks::{begin_section, if_whole, mark, mark_record};
 use recording::picture::{Lists, Picture, Planes, read_lists, read_planes, stripes};
-use std::io;
+use std::{fmt, io};
+
+// A pass, or the frame call beside it.
+#[derive(Clone, Copy)]
+pub enum Step {
+    Pass,
+    FrameCall,
+}
 
 #[derive(Clone, Copy)]
-pub enum Frames {
+enum Frames {
     Key,
     Inter,
 }
 
-// A pass, or the frame call beside it.
 #[derive(Clone, Copy)]
-pub enum Call {
-    Pass,
-    Frame,
+struct Call {
+    step: Step,
+    frames: Frames,
+}
+
+// The name of its function.
+impl fmt::Display for Call {
+    fn fmt<W: fmt::Write>(&self, f: &mut fmt::Formatter<W>) -> fmt::Result {
+        let step = match self.step {
+            Step::Pass => "",
+            Step::FrameCall => "loop_",
+        };
+        let frames = match self.frames {
+            Frames::Key => "",
+            Frames::Inter => "inter_",
+        };
+        write!(f, "{step}filter_{frames}frame")
+    }
+}
+
+// Which call, and what its record begins with: where and how it works.
+#[derive(Clone, Copy)]
+struct Task {
+    call: Call,
+    place: Place,
+    config: FrameFilterConfig,
+}
+
+fn read_task(rt: &impl Input, call: Call) -> io::Result<Task> {
+    Ok(Task {
+        call,
+        place: read_place(rt)?,
+        config: read_settings(rt)?,
+    })
 }
 
 // What a call answers, the count and the next start, and what it leaves.
@@ -34,11 +72,9 @@ struct Left<const Y: usize, const U: usize, const V: usize> {
 }
 
 fn over<const Y: usize, const U: usize, const V: usize, E: Entries>(
-    call: Call,
-    before: Planes<Y, U, V>,
-    place: Place,
+    task: Task,
     entries: E,
-    config: FrameFilterConfig,
+    before: Planes<Y, U, V>,
 ) -> Left<Y, U, V> {
     let Planes {
         mut y,
@@ -50,14 +86,21 @@ fn over<const Y: usize, const U: usize, const V: usize, E: Entries>(
         u: &mut u,
         v: &mut v,
     };
+    let Task {
+        call,
+        place,
+        config,
+    } = task;
     let Place {
         layout,
         start,
         allowance,
     } = place;
-    let answer = match call {
-        Call::Pass => filter_frame(&mut picture, layout, entries, config, start, allowance),
-        Call::Frame => loop_filter_frame(&mut picture, layout, entries, config, start, allowance),
+    let answer = match call.step {
+        Step::Pass => filter_frame(&mut picture, layout, entries, config, start, allowance),
+        Step::FrameCall => {
+            loop_filter_frame(&mut picture, layout, entries, config, start, allowance)
+        }
     };
     Left {
         answer: answer.map(|done| (done.count, done.next)),
@@ -66,12 +109,9 @@ fn over<const Y: usize, const U: usize, const V: usize, E: Entries>(
 }
 
 fn over_lists<const Y: usize, const U: usize, const V: usize, const N: usize>(
-    frames: Frames,
-    call: Call,
-    before: Planes<Y, U, V>,
-    place: Place,
+    task: Task,
     lists: Lists<N>,
-    config: FrameFilterConfig,
+    before: Planes<Y, U, V>,
 ) -> Left<Y, U, V> {
     let key = KeyLists {
         modes: &lists.modes,
@@ -83,126 +123,174 @@ fn over_lists<const Y: usize, const U: usize, const V: usize, const N: usize>(
         references: &lists.references,
         inter_modes: &lists.inter_modes,
     };
-    match frames {
-        Frames::Key => over(call, before, place, key, config),
-        Frames::Inter => over(call, before, place, inter, config),
+    match task.call.frames {
+        Frames::Key => over(task, key, before),
+        Frames::Inter => over(task, inter, before),
     }
 }
 
-fn over_records(
-    frames: Frames,
-    call: Call,
-    before: Picture,
-    place: Place,
-    list: [MacroblockModes; 4],
-    config: FrameFilterConfig,
-) -> Left<1280, 352, 348> {
-    let key = KeyRecords { list: &list };
-    let inter = InterRecords { list: &list };
-    match frames {
-        Frames::Key => over(call, before, place, key, config),
-        Frames::Inter => over(call, before, place, inter, config),
+// What a recorded call has for the four macroblocks of its picture.
+trait Listed: Copy {
+    fn read(rt: &impl Input) -> io::Result<Self>;
+
+    fn filter(self, task: Task, before: Picture) -> Left<1280, 352, 348>;
+}
+
+impl Listed for Lists<4> {
+    fn read(rt: &impl Input) -> io::Result<Self> {
+        read_lists(rt)
+    }
+
+    fn filter(self, task: Task, before: Picture) -> Left<1280, 352, 348> {
+        over_lists(task, self, before)
+    }
+}
+
+impl Listed for Records {
+    fn read(rt: &impl Input) -> io::Result<Self> {
+        Records::read_four(rt)
+    }
+
+    fn filter(self, task: Task, before: Picture) -> Left<1280, 352, 348> {
+        let key = KeyRecords { list: &self.list };
+        let inter = InterRecords { list: &self.list };
+        match task.call.frames {
+            Frames::Key => over(task, key, before),
+            Frames::Inter => over(task, inter, before),
+        }
     }
 }
 
 // Every sample, also those outside the grid.
 fn is_left<const Y: usize, const U: usize, const V: usize>(
     left: Left<Y, U, V>,
-    wanted: Result<(usize, usize), u8>,
+    recorded: Recorded<(usize, usize)>,
     after: Planes<Y, U, V>,
 ) -> bool {
-    answered(left.answer, wanted) & (left.planes == after)
+    (left.answer.map_err(u8::from) == recorded.answer()) & (left.planes == after)
 }
 
-// Place, settings, lists, the answer, the picture before and after.
-pub fn replay_pass(rt: &impl Input, frames: Frames, call: Call) -> io::Result<bool> {
-    let place = read_place(rt)?;
-    let config = read_settings(rt)?;
-    let lists: Lists<4> = read_lists(rt)?;
-    let wanted = read_recorded(rt)?;
-    let before: Picture = read_planes(rt)?;
-    let after = read_planes(rt)?;
-    let left = over_lists(frames, call, before, place, lists, config);
-    Ok(is_left(left, wanted, after))
+// Whether a record has its pictures, or none since nothing may change.
+#[derive(Clone, Copy)]
+enum Recording {
+    Planes,
+    NoPlanes,
 }
 
-// The same without pictures: nothing may change.
-pub fn replay_idle(rt: &impl Input, frames: Frames, call: Call) -> io::Result<bool> {
-    let place = read_place(rt)?;
-    let config = read_settings(rt)?;
-    let lists: Lists<4> = read_lists(rt)?;
-    let wanted = read_recorded(rt)?;
-    let before: Picture = stripes();
-    let left = over_lists(frames, call, before, place, lists, config);
-    Ok(is_left(left, wanted, before))
+// The pictures before and after a call.
+fn read_pictures(rt: &impl Input, recording: Recording) -> io::Result<[Picture; 2]> {
+    match recording {
+        Recording::Planes => Ok([read_planes(rt)?, read_planes(rt)?]),
+        Recording::NoPlanes => Ok([stripes(); 2]),
+    }
 }
 
-// A halted call and the one that goes on where it ended, to the end of the grid.
-pub fn replay_halted(rt: &(impl Input + Print), frames: Frames, call: Call) -> io::Result<bool> {
-    let place = read_place(rt)?;
-    let config = read_settings(rt)?;
+// Place, settings, lists or records, the answer, the pictures.
+fn replay_call<L: Listed>(rt: &impl Input, call: Call, recording: Recording) -> io::Result<bool> {
+    let task = read_task(rt, call)?;
+    let listed = L::read(rt)?;
+    let recorded = read_recorded(rt)?;
+    let [before, after] = read_pictures(rt, recording)?;
+    let left = listed.filter(task, before);
+    Ok(is_left(left, recorded, after))
+}
+
+// What the second of two calls answers and leaves.
+fn read_resumed(rt: &impl Input) -> io::Result<(Recorded<(usize, usize)>, Picture)> {
+    Ok((read_recorded(rt)?, read_planes(rt)?))
+}
+
+// A halted call, which it marks, and the one that goes on where it ended, to the end of the grid.
+fn replay_halted(rt: &(impl Input + Print), call: Call) -> io::Result<bool> {
+    let task = read_task(rt, call)?;
     let lists: Lists<4> = read_lists(rt)?;
     let before: Picture = read_planes(rt)?;
     let halted = read_recorded(rt)?;
     let middle = read_planes(rt)?;
-    let resumed = read_recorded(rt)?;
-    let after = read_planes(rt)?;
-    let first = over_lists(frames, call, before, place, lists, config);
+    let resumed = if_whole(read_resumed(rt))?;
+    let first = over_lists(task, lists, before);
     mark(rt, is_left(first, halted, middle))?;
-    let rest = Place {
-        start: halted.map_or(0, |(_, next)| next),
+    let (_, start) = halted.value;
+    let place = Place {
+        start,
         allowance: usize::MAX,
-        ..place
+        ..task.place
     };
-    let second = over_lists(frames, call, first.planes, rest, lists, config);
-    Ok(is_left(second, resumed, after))
+    let rest = Task { place, ..task };
+    let second = over_lists(rest, lists, first.planes);
+    Ok(resumed.is_some_and(|(recorded, after)| is_left(second, recorded, after)))
 }
 
-// Place, settings, records, the answer, the picture before and after.
-pub fn replay_records(rt: &impl Input, frames: Frames, call: Call) -> io::Result<bool> {
-    let place = read_place(rt)?;
-    let config = read_settings(rt)?;
-    let list = read_records(rt)?;
-    let wanted = read_recorded(rt)?;
-    let before = read_planes(rt)?;
+// A frame of recorded film: place, settings, the answer, lists, the planes before and after.
+// A caller names the sizes, and what it reads must fit in memory.
+fn replay_film<const Y: usize, const U: usize, const V: usize, const N: usize>(
+    rt: &impl Input,
+    call: Call,
+) -> io::Result<bool>
+    requires luma { Y ≤ 65536 }
+    requires blue { U ≤ 65536 }
+    requires red { V ≤ 65536 }
+    requires lists { N ≤ 65536 }
+{
+    let task = read_task(rt, call)?;
+    let recorded = read_recorded(rt)?;
+    let lists: Lists<N> = read_lists(rt)?;
+    let before: Planes<Y, U, V> = read_planes(rt)?;
     let after = read_planes(rt)?;
-    let left = over_records(frames, call, before, place, list, config);
-    Ok(is_left(left, wanted, after))
+    let left = over_lists(task, lists, before);
+    Ok(is_left(left, recorded, after))
 }
 
-// The same without pictures: nothing may change.
-pub fn replay_idle_records(rt: &impl Input, frames: Frames, call: Call) -> io::Result<bool> {
-    let place = read_place(rt)?;
-    let config = read_settings(rt)?;
-    let list = read_records(rt)?;
-    let wanted = read_recorded(rt)?;
-    let before = stripes();
-    let left = over_records(frames, call, before, place, list, config);
-    Ok(is_left(left, wanted, before))
+// Two lines, of key and of inter frames: the name of the call and what its records are.
+// What calls a closure has the `requires`. A trait in its place would need none, but an impl for each kind of record.
+fn both_sections<F: Fn(Call) -> io::Result<bool>>(
+    rt: &(impl Input + Print),
+    step: Step,
+    records: &str,
+    marks: usize,
+    replay: F,
+) -> io::Result<()>
+    requires { F.IsAlwaysCallable replay }
+{
+    for frames in [Frames::Key, Frames::Inter] {
+        let call = Call { step, frames };
+        print!(rt; "{call}")?;
+        for _ in 0..begin_section(rt, records)? {
+            mark_record(rt, marks, replay(call))?;
+        }
+        println!(rt)?;
+    }
+    Ok(())
 }
 
-// Frames of recorded film: place, settings, the answer, lists, the planes before and after. Not one function over the sizes: each call in it would owe that planes of any size fit in memory.
-
-// 64 by 64 samples.
-pub fn replay_film64(rt: &impl Input, frames: Frames) -> io::Result<bool> {
-    let place = read_place(rt)?;
-    let config = read_settings(rt)?;
-    let wanted = read_recorded(rt)?;
-    let lists: Lists<16> = read_lists(rt)?;
-    let before: Planes<4096, 1024, 1024> = read_planes(rt)?;
-    let after = read_planes(rt)?;
-    let left = over_lists(frames, Call::Pass, before, place, lists, config);
-    Ok(is_left(left, wanted, after))
+pub fn call_sections(rt: &(impl Input + Print), step: Step) -> io::Result<()> {
+    both_sections(rt, step, "", 1, |call| {
+        replay_call::<Lists<4>>(rt, call, Recording::Planes)
+    })?;
+    both_sections(rt, step, ", nothing changes", 1, |call| {
+        replay_call::<Lists<4>>(rt, call, Recording::NoPlanes)
+    })?;
+    both_sections(
+        rt,
+        step,
+        ", halted and resumed",
+        2,
+        |call| replay_halted(rt, call),
+    )?;
+    both_sections(rt, step, "_records", 1, |call| {
+        replay_call::<Records>(rt, call, Recording::Planes)
+    })?;
+    both_sections(rt, step, "_records, nothing changes", 1, |call| {
+        replay_call::<Records>(rt, call, Recording::NoPlanes)
+    })
 }
 
-// 16 by 16 samples.
-pub fn replay_film16(rt: &impl Input, frames: Frames) -> io::Result<bool> {
-    let place = read_place(rt)?;
-    let config = read_settings(rt)?;
-    let wanted = read_recorded(rt)?;
-    let lists: Lists<1> = read_lists(rt)?;
-    let before: Planes<256, 64, 64> = read_planes(rt)?;
-    let after = read_planes(rt)?;
-    let left = over_lists(frames, Call::Pass, before, place, lists, config);
-    Ok(is_left(left, wanted, after))
+// Of 64 by 64 samples, and of 16 by 16.
+pub fn film_sections(rt: &(impl Input + Print)) -> io::Result<()> {
+    both_sections(rt, Step::Pass, ", film 64x64", 1, |call| {
+        replay_film::<4096, 1024, 1024, 16>(rt, call)
+    })?;
+    both_sections(rt, Step::Pass, ", film 16x16", 1, |call| {
+        replay_film::<256, 64, 64, 1>(rt, call)
+    })
 }

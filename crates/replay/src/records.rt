@@ -22,11 +22,19 @@ fn read_record(rt: &impl Input) -> io::Result<MacroblockModes> {
 }
 
 // One for each macroblock of a picture.
-pub fn read_records(rt: &impl Input) -> io::Result<[MacroblockModes; 4]> {
-    Ok([
-        read_record(rt)?,
-        read_record(rt)?,
-        read_record(rt)?,
-        read_record(rt)?,
-    ])
+#[derive(Clone, Copy)]
+pub struct Records {
+    pub list: [MacroblockModes; 4],
+}
+
+impl Records {
+    pub fn read_four(rt: &impl Input) -> io::Result<Records> {
+        let list = [
+            read_record(rt)?,
+            read_record(rt)?,
+            read_record(rt)?,
+            read_record(rt)?,
+        ];
+        Ok(Records { list })
+    }
 }

@@ -2,7 +2,7 @@
 use levels::config::FrameFilterConfig;
 use planes::layout::PlaneLayout;
 use planes::picture::Picture;
-use recording::input::{read_place, read_settings, read_size, read_u8, recorded};
+use recording::input::{Recorded, read_place, read_refusal, read_settings, read_size, read_u8};
 use recording::picture::Planes;
 use search::answers::FilterParams;
 use search::input::SearchInput;
@@ -38,31 +38,40 @@ pub fn read_task(rt: &impl Input) -> io::Result<Task> {
 impl Task {
     // The search on a reconstruction, against the planes of a source.
     pub fn on<'a>(self, picture: Picture<'a>, source: Picture<'a>) -> SearchInput<'a> {
+        let Task {
+            layout,
+            config,
+            width,
+            height,
+            y_stride,
+            uv_stride,
+        } = self;
+        let Picture { y, u, v } = source;
         let source = SourcePlanes {
-            width: self.width,
-            height: self.height,
-            y: source.y,
-            u: source.u,
-            v: source.v,
-            y_stride: self.y_stride,
-            uv_stride: self.uv_stride,
+            width,
+            height,
+            y,
+            u,
+            v,
+            y_stride,
+            uv_stride,
         };
         SearchInput {
             picture,
-            layout: self.layout,
-            config: self.config,
+            layout,
+            config,
             source,
         }
     }
 }
 
-// What a search answers: the number of a refusal, or 0; and the choice.
-pub fn read_choice(rt: &impl Input) -> io::Result<Result<FilterParams, u8>> {
-    let refusal = read_u8(rt)?;
-    let params = FilterParams {
+// What a search answers: its refusal or its choice.
+pub fn read_choice(rt: &impl Input) -> io::Result<Recorded<FilterParams>> {
+    let refusal = read_refusal(rt)?;
+    let value = FilterParams {
         level: read_u8(rt)?,
         sharpness: read_u8(rt)?,
         count: read_size(rt)?,
     };
-    Ok(recorded(refusal, params))
+    Ok(Recorded { refusal, value })
 }

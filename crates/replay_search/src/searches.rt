@@ -3,13 +3,14 @@ use crate::search_input::{Scratch, Task, read_choice, read_task};
 use frame::entries::{InterLists, KeyLists};
 use judge::entries::Entries;
 use planes::picture::{Picture, PictureMut};
-use recording::input::read_recorded;
-use recording::marks::{answered, mark};
-use recording::picture::{Lists, Picture as Recorded, Planes, read_lists, read_planes, stripes};
+use recording::input::{Recorded, read_recorded};
+use recording::marks::{if_whole, mark};
+use recording::picture::{Lists, Picture as Samples, Planes, read_lists, read_planes, stripes};
 use search::answers::{FilterLevel, FilterParams};
 use search::input::SearchInput;
 use search::search::{select_filter_level, select_filter_params};
 use std::io;
+use sums::answers::SearchRefusal;
 use sums::sums::reconstruction_ssd;
 
 #[derive(Clone, Copy)]
@@ -18,8 +19,38 @@ pub enum Frames {
     Inter,
 }
 
-fn lend(recorded: &Recorded) -> Picture<'_> {
-    let Planes { y, u, v } = recorded;
+// Whether a record has its planes, or none since nothing may change.
+#[derive(Clone, Copy)]
+pub enum Recording {
+    Planes,
+    NoPlanes,
+}
+
+// The planes that a search reads, and the scratch planes after it.
+#[derive(Clone, Copy)]
+struct Pictures {
+    reconstruction: Samples,
+    source: Samples,
+    after: Scratch,
+}
+
+fn read_pictures(rt: &impl Input, recording: Recording) -> io::Result<Pictures> {
+    match recording {
+        Recording::Planes => Ok(Pictures {
+            reconstruction: read_planes(rt)?,
+            source: read_planes(rt)?,
+            after: read_planes(rt)?,
+        }),
+        Recording::NoPlanes => Ok(Pictures {
+            reconstruction: stripes(),
+            source: stripes(),
+            after: stripes(),
+        }),
+    }
+}
+
+fn lend(samples: &Samples) -> Picture<'_> {
+    let Planes { y, u, v } = samples;
     Picture { y, u, v }
 }
 
@@ -28,73 +59,48 @@ fn lend_mut(scratch: &mut Scratch) -> PictureMut<'_> {
     PictureMut { y, u, v }
 }
 
-// Whether the search for level and sharpness answers as recorded, and leaves the scratch planes so.
-fn is_params_choice<E: Entries>(
+// Beside a refusal the recording has zeros.
+const NO_CHOICE: FilterParams = FilterParams {
+    level: 0,
+    sharpness: 0,
+    count: 0,
+};
+
+fn is_choice(answer: Result<FilterParams, SearchRefusal>, choice: Recorded<FilterParams>) -> bool {
+    let refusal = answer.err().map(u8::from);
+    let value = answer.unwrap_or(NO_CHOICE);
+    choice == Recorded { refusal, value }
+}
+
+// Whether the search for level and sharpness, and the one for the level alone, answer as recorded and leave the scratch planes so.
+fn are_choices<E: Entries>(
     input: SearchInput<'_>,
     entries: E,
-    choice: Result<FilterParams, u8>,
+    choice: Recorded<FilterParams>,
     after: Scratch,
-) -> bool {
+) -> [bool; 2] {
     let mut scratch: Scratch = stripes();
     let answer = select_filter_params(input, entries, &mut lend_mut(&mut scratch));
-    answered(answer, choice) & (scratch == after)
-}
-
-// The same of the search for the level alone.
-fn is_level_choice<E: Entries>(
-    input: SearchInput<'_>,
-    entries: E,
-    choice: Result<FilterParams, u8>,
-    after: Scratch,
-) -> bool {
+    let params = is_choice(answer, choice) & (scratch == after);
     let mut scratch: Scratch = stripes();
     let answer = select_filter_level(input, entries, &mut lend_mut(&mut scratch));
-    let wanted = choice.map(|params| FilterLevel {
-        level: params.level,
-        count: params.count,
+    let FilterParams { sharpness, .. } = choice.value;
+    let found = answer.map(|FilterLevel { level, count }| FilterParams {
+        level,
+        sharpness,
+        count,
     });
-    answered(answer, wanted) & (scratch == after)
+    [params, is_choice(found, choice) & (scratch == after)]
 }
 
-// Marks the search for level and sharpness; answers for the level alone.
-fn replay_choice<E: Entries>(
-    rt: &impl Print,
-    input: SearchInput<'_>,
-    entries: E,
-    choice: Result<FilterParams, u8>,
-    after: Scratch,
-) -> io::Result<bool> {
-    mark(rt, is_params_choice(input, entries, choice, after))?;
-    Ok(is_level_choice(input, entries, choice, after))
-}
-
-// Marks both sums.
-fn replay_sums(
-    rt: &impl Print,
-    input: SearchInput<'_>,
-    recorded: Result<(usize, usize), u8>,
-) -> io::Result<()> {
-    let answer = reconstruction_ssd(input.picture, input.layout, input.source);
-    let wanted = recorded.map(|(sum, _)| sum as u64);
-    let same = answered(answer, wanted);
-    mark(rt, same)?;
-    mark(rt, same)
-}
-
-// Marks both sums and the search for level and sharpness; answers for the level alone.
-fn replay_all(
-    rt: &(impl Input + Print),
+// Key and inter lists are made here as in `replay`: the crate `recording` below both has no entries, and would need `frame` below it.
+fn are_choices_over(
     frames: Frames,
-    task: Task,
+    input: SearchInput<'_>,
     lists: Lists<4>,
-    reconstruction: Recorded,
-    source: Recorded,
+    choice: Recorded<FilterParams>,
     after: Scratch,
-) -> io::Result<bool> {
-    let recorded = read_recorded(rt)?;
-    let choice = read_choice(rt)?;
-    let input = task.on(lend(&reconstruction), lend(&source));
-    replay_sums(rt, input, recorded)?;
+) -> [bool; 2] {
     let key = KeyLists {
         modes: &lists.modes,
         segments: &lists.segments,
@@ -106,24 +112,31 @@ fn replay_all(
         inter_modes: &lists.inter_modes,
     };
     match frames {
-        Frames::Key => replay_choice(rt, input, key, choice, after),
-        Frames::Inter => replay_choice(rt, input, inter, choice, after),
+        Frames::Key => are_choices(input, key, choice, after),
+        Frames::Inter => are_choices(input, inter, choice, after),
     }
 }
 
-// Task, lists, reconstruction, source, scratch after the search, sum and choice.
-pub fn replay_search(rt: &(impl Input + Print), frames: Frames) -> io::Result<bool> {
+// Task, lists, reconstruction, source, scratch after the search, sum and choice. Marks both sums and the search for level and sharpness; answers for the level alone.
+pub fn replay_search(
+    rt: &(impl Input + Print),
+    frames: Frames,
+    recording: Recording,
+) -> io::Result<bool> {
     let task = read_task(rt)?;
     let lists = read_lists(rt)?;
-    let reconstruction = read_planes(rt)?;
-    let source = read_planes(rt)?;
-    let after = read_planes(rt)?;
-    replay_all(rt, frames, task, lists, reconstruction, source, after)
-}
-
-// The same without planes: nothing may change.
-pub fn replay_idle_search(rt: &(impl Input + Print), frames: Frames) -> io::Result<bool> {
-    let task = read_task(rt)?;
-    let lists = read_lists(rt)?;
-    replay_all(rt, frames, task, lists, stripes(), stripes(), stripes())
+    let pictures = read_pictures(rt, recording)?;
+    let recorded = read_recorded(rt)?.answer();
+    let choice = if_whole(read_choice(rt))?;
+    let input = task.on(lend(&pictures.reconstruction), lend(&pictures.source));
+    let sum = reconstruction_ssd(input.picture, input.layout, input.source);
+    let same = sum.map_err(u8::from) == recorded.map(|(sum, _)| sum as u64);
+    mark(rt, same)?;
+    mark(rt, same)?;
+    let [params, level] = match choice {
+        Some(choice) => are_choices_over(frames, input, lists, choice, pictures.after),
+        None => [false; 2],
+    };
+    mark(rt, params)?;
+    Ok(level)
 }

@@ -10,14 +10,13 @@ use planes::grid::GridRefusal;
 use planes::layout::PlaneLayout;
 use planes::picture::{Picture, PictureMut};
 
+// n samples from the same place on. The rows are apart in both planes, so that no slice has a row of both.
 fn copy_row(source: &[u8], into: &mut [u8], from: usize, n: usize)
     requires { (from + n ≤ length source.now) × (from + n ≤ length into.old) }
     ensures { into.new ≡ copy_row source.now from n into.old }
 {
-    for k in 0..n {
-        let i = from + k;
-        into[i] = source[i];
-    }
+    let end = from + n;
+    into[from..end].copy_from_slice(&source[from..end]);
 }
 
 fn copy_rows(source: &[u8], into: &mut [u8], stride: usize, w: usize, n: usize)
@@ -39,13 +38,15 @@ fn copy_planes(picture: Picture<'_>, scratch: &mut PictureMut<'_>, layout: Plane
     if layout.is_zero() {
         return;
     }
-    let cols = layout.mb_cols;
-    let rows = layout.mb_rows;
-    let ys = layout.y_stride;
-    let us = layout.uv_stride;
-    copy_rows(picture.y, scratch.y, ys, 16 * cols, 16 * rows);
-    copy_rows(picture.u, scratch.u, us, 8 * cols, 8 * rows);
-    copy_rows(picture.v, scratch.v, us, 8 * cols, 8 * rows);
+    let PlaneLayout {
+        mb_cols,
+        mb_rows,
+        y_stride,
+        uv_stride,
+    } = layout;
+    copy_rows(picture.y, scratch.y, y_stride, 16 * mb_cols, 16 * mb_rows);
+    copy_rows(picture.u, scratch.u, uv_stride, 8 * mb_cols, 8 * mb_rows);
+    copy_rows(picture.v, scratch.v, uv_stride, 8 * mb_cols, 8 * mb_rows);
 }
 
 // The planes' grid in the scratch planes; or 1, 2 or 3 of the planes, then of the scratch planes, and nothing is copied.

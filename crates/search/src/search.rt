@@ -19,6 +19,7 @@ use planes::picture::PictureMut;
 use sums::answers::SearchRefusal;
 use sums::sums::reconstruction_ssd;
 
+// Ready is of all that is lent, some for reading and the scratch planes for writing: no struct has both, here and below.
 // A trial: a candidate is scored and taken if it is better, or passed over.
 fn try_candidate<E: Entries>(
     input: SearchInput<'_>,
@@ -93,7 +94,7 @@ fn search_all<E: Entries>(
     best
 }
 
-// The pair that the search chooses, and the count; or a refusal.
+// The pair that the search chooses, and the count; or a refusal. Callers are not told the sum and the winner.
 pub fn select_filter_params<E: Entries>(
     input: SearchInput<'_>,
     entries: E,
@@ -113,7 +114,7 @@ pub fn select_filter_params<E: Entries>(
     })
 }
 
-// The level of the pair that the search chooses, and the count; or a refusal.
+// The level of the pair that the search chooses, and the count; or a refusal. The same without the sharpness.
 pub fn select_filter_level<E: Entries>(
     input: SearchInput<'_>,
     entries: E,

@@ -14,6 +14,7 @@ const LEVELS_END: usize = 80;
 // Trials 80 to 87 are the sharpness values 0 to 7.
 pub(crate) const TRIALS: usize = 88;
 
+// More than the search tells of it (`FilterParams`), since these decide the next trials.
 // The best candidate so far, its sum, the number of candidates scored at a level above 0, and the winner of the coarse levels.
 #[derive(Clone, Copy, Debug, PartialEq, Eq)]
 pub struct Best {
@@ -53,6 +54,7 @@ fn is_near(winner: u8, level: u8) -> bool
     (w <= l + 3) & (l <= w + 3)
 }
 
+// By its number, as document 01 orders the trials: no state goes from one to the next but the best.
 // Trial i: a coarse level; a level near the winner but the best of the moment; another sharpness unless the best level is 0. None is passed over.
 #[tactic(auto, unfolding(crate::specs::Private::SearchCode::trial_of))]
 pub(crate) fn next_trial(base: u8, i: usize, best: Best) -> Option<Trial>
@@ -104,10 +106,10 @@ fn counted(level: u8, count: usize) -> usize
     requires { count < 100 }
     ensures { result ≡ cond (eqb level 0) 0 1 + count }
 {
-    if level == 0 { count } else { 1 + count }
+    count + usize::from(level != 0)
 }
 
-// Only a strictly smaller sum replaces.
+// Only a strictly smaller sum replaces. The trial is a part of Best without a name there.
 #[tactic(auto, unfolding(crate::specs::Private::SearchCode::taken))]
 pub(crate) fn take(best: Best, trial: Trial, sum: u64) -> Best
     requires { best.«count» < 100 }
@@ -126,7 +128,7 @@ pub(crate) fn take(best: Best, trial: Trial, sum: u64) -> Best
     Best { count, ..best }
 }
 
-// The winner is the best of the coarse levels.
+// The winner is the best of the coarse levels, whose trials come first.
 #[tactic(auto, unfolding(crate::specs::Private::SearchCode::with_winner))]
 pub(crate) fn note_winner(i: usize, best: Best) -> Best
     ensures { result ≡ with_winner i best }

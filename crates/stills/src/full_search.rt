@@ -40,6 +40,7 @@ fn take(best: Best, level: u8, sharpness: u8, sum: u64) -> Best
     best
 }
 
+// What it takes goes apart, as in the other search.
 // Pair i is made in the scratch planes, and taken if it is better.
 fn try_pair<E: Entries>(
     input: SearchInput<'_>,
@@ -84,7 +85,7 @@ fn try_pairs<E: Entries>(
     best
 }
 
-// The best candidate, left in the grid of the scratch planes. `sum` is the unfiltered sum.
+// The best candidate, left in the grid of the scratch planes. `sum` is the unfiltered sum. The other search tries other pairs, and counts.
 fn find_best<E: Entries>(
     input: SearchInput<'_>,
     entries: E,

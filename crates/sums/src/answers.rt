@@ -1,16 +1,15 @@
-// Why a sum or a search is refused. `specs/Answers.antt` gives each refusal its number in document 01.
 use planes::grid::GridRefusal;
 
-// Refusal 1, 2, 3, 6, 8, 9 or 10. A sum reads no entry and never gives 6.
+// Why a sum or a search is refused, with its number in document 01: other numbers than a pass has, 8 to 10 and neither 5 nor 7. A sum reads no entry and never gives 6.
 #[derive(Clone, Copy, Debug, PartialEq, Eq)]
 pub enum SearchRefusal {
-    TooLarge,
-    BadStrides,
-    ShortPlane,
-    BadEntry,
-    SourceTooLarge,
-    BadSource,
-    SumTooLarge,
+    TooLarge = 1,
+    BadStrides = 2,
+    ShortPlane = 3,
+    BadEntry = 6,
+    SourceTooLarge = 8,
+    BadSource = 9,
+    SumTooLarge = 10,
 }
 
 impl From<SearchRefusal> for u8 {
@@ -20,15 +19,7 @@ impl From<SearchRefusal> for u8 {
     ghost from_gives = { λ refusal n. n ≡ search_refusal_number refusal };
 
     fn from(refusal: SearchRefusal) -> u8 {
-        match refusal {
-            SearchRefusal::TooLarge => 1,
-            SearchRefusal::BadStrides => 2,
-            SearchRefusal::ShortPlane => 3,
-            SearchRefusal::BadEntry => 6,
-            SearchRefusal::SourceTooLarge => 8,
-            SearchRefusal::BadSource => 9,
-            SearchRefusal::SumTooLarge => 10,
-        }
+        refusal as u8
     }
 }
 

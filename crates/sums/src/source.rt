@@ -30,7 +30,7 @@ fn over(n: usize, mbs: usize) -> bool
     mbs < n.div_ceil(16)
 }
 
-// 9, of one source plane: it is short by the rule of 3.
+// 9, of one source plane: it is short by the rule of 3. The bounds are of a source that 8 and its strides let pass.
 #[tactic(auto, unfolding(crate::specs::Private::SumCode::short_of))]
 fn short(len: usize, rows: usize, stride: usize, width: usize) -> bool
     requires { (0 < rows) × (rows ≤ 16384) × (stride ≤ 65536) × (width ≤ 16384) }
@@ -48,7 +48,7 @@ impl SourcePlanes<'_> {
         over(self.width, layout.mb_cols) | over(self.height, layout.mb_rows)
     }
 
-    // 9: a source stride is below its row or above 65,536.
+    // 9: a source stride is below its row or above 65,536. 8 has bounded the width.
     #[tactic(auto, unfolding(crate::specs::Source::bad_source_strides))]
     fn has_bad_strides(self) -> bool
         requires { self.width ≤ 16384 }

@@ -32,6 +32,7 @@ fn row_sum(a: &[u8], i: usize, b: &[u8], j: usize, w: usize) -> u64
     ensures { result ≡ row_sum a.now i b.now j w }
 {
     let mut sum: u32 = 0;
+    // k walks both rows.
     for k in 0..w {
         sum += squared_difference(a[i + k], b[j + k]);
     }
@@ -54,6 +55,7 @@ fn plane_sum(
     ensures { result ≡ fitting (start + rows_sum a.now s b.now t w h) }
 {
     let mut sum = start;
+    // n is the row of both planes, whose strides differ.
     for n in 0..h {
         let row = row_sum(a, n * s, b, n * t, w);
         let Some(more) = sum.checked_add(row) else {
@@ -64,7 +66,7 @@ fn plane_sum(
     Ok(sum)
 }
 
-// The sums of the three planes, one added to the other.
+// The sums of the three planes, one added to the other. What a sum takes is document 01's: planes, layout, source.
 fn three_sums(
     picture: Picture<'_>,
     layout: PlaneLayout,

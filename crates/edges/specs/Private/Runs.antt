@@ -7,7 +7,7 @@ use Rattle.kernels.specs.Kernels.{apart, edge_value, filter_yes, hev, filter_val
 use Rattle.kernels.specs.Segment.{Kernel, smooth, mark}
 use Rattle.planes.specs.Steps.{steps}
 use Rattle.arithmetic.specs.declared.limits.LoopFilterParams.{LoopFilterParams}
-use Rattle.edges.specs.declared.position.EdgeLimits.{EdgeLimits}
+use Rattle.kernels.specs.declared.limits.EdgeLimits.{EdgeLimits}
 use Rattle.edges.specs.declared.position.FourTaps.{FourTaps}
 use Rattle.edges.specs.declared.position.EightTaps.{EightTaps}
 use Rattle.edges.specs.declared.position.InnerTaps.{InnerTaps}

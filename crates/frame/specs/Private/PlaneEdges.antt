@@ -5,11 +5,16 @@ use Rattle.planes.specs.Steps.{steps}
 use Rattle.planes.specs.Edges.{Direction, vertical, horizontal}
 use Rattle.planes.specs.Private.Worked.{Worked}
 use Rattle.edges.specs.EdgeFrom.{edge_from, smoothed_from}
+use Rattle.edges.specs.declared.place.EdgePlace.{EdgePlace}
 use Rattle.frame.specs.declared.plane.Square.{Square}
 
 -- the square of a macroblock in a plane of squares of `side` samples
 abbrev pub square_at : (side stride row column : ℕ) → Square
 square_at side stride row column = record { stride = stride; corner = side * row * stride + side * column; row = row; column = column }
+
+-- the place of an edge in its plane, by its first tap
+abbrev pub place_of : Square → (at : ℕ) → EdgePlace
+place_of q at = record { stride = q.stride; at = at }
 
 -- it lies among `length` samples, as does what is left of it and above it
 pub record Inside (side : ℕ) (q : Square) (length : ℕ) : Type 0 where

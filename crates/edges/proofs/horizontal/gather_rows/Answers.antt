@@ -12,7 +12,7 @@ loop-k-init g c = (omega arith, fill_none _ _, length-replicate g.row.M (replica
 pub loop-k-preserved : goal.loop-k-preserved
 loop-k-preserved g c =
     let x = c.args in
-    (omega (arith, c.loop-k-test.true), fill-turn c.loop-k.k (λ k. row_at g.row.N (x.at + k * x.stride) x.plane.now) _ _ _ c.loop-k.invariant.1 (omega (arith, c.loop-k-test.true, c.loop-k.invariant.2)) c.gather.ensures, c.loop-k.invariant.2)
+    (omega (arith, c.loop-k-test.true), fill-turn c.loop-k.k (λ k. row_at g.row.N (x.place.at + k * x.place.stride) x.plane.now) _ _ _ c.loop-k.invariant.1 (omega (arith, c.loop-k-test.true, c.loop-k.invariant.2)) c.gather.ensures, c.loop-k.invariant.2)
 
 pub returns : goal.returns
 unfolding rows_at

@@ -7,4 +7,4 @@ use Rattle.edges.proofs.horizontal.gather_rows.Given as goal
 
 abbrev pub invariant-loop-k : goal.invariant-loop-k
 invariant-loop-k g l =
-    (l.k ≤ g.row.M) × (l.rows ≡ fill l.k (λ k. row_at g.row.N (l.at + k * l.stride) l.plane) l.initial.rows) × (length l.initial.rows ≡ g.row.M)
+    (l.k ≤ g.row.M) × (l.rows ≡ fill l.k (λ k. row_at g.row.N (l.place.at + k * l.place.stride) l.plane) l.initial.rows) × (length l.initial.rows ≡ g.row.M)

@@ -10,22 +10,22 @@ pub returns-then-has_rows-clause-plane_after : goal.returns-then-has_rows-clause
 returns-then-has_rows-clause-plane_after g c =
     let x = c.args in
     let k = simple_segment x.edge_limit in
-    c.simple_rows.ensures.plane_after ∙ filtered horizontal k x.stride x.at g.row.N x.plane.now (c.has_rows.ensures ∙ rows-fit k 4 x.stride x.at g.row.N (length x.plane.now) (simple-four x.edge_limit)) c.if-has_rows.true
+    c.simple_rows.ensures.plane_after ∙ filtered horizontal k x.place.stride x.place.at g.row.N x.plane.now (c.has_rows.ensures ∙ rows-fit k 4 x.place.stride x.place.at g.row.N (length x.plane.now) (simple-four x.edge_limit)) c.if-has_rows.true
 
 pub returns-then-has_rows-clause-value : goal.returns-then-has_rows-clause-value
 returns-then-has_rows-clause-value g c =
     let x = c.args in
     let k = simple_segment x.edge_limit in
-    c.simple_rows.ensures.value ∙ counted horizontal k x.stride x.at g.row.N x.plane.now (c.has_rows.ensures ∙ rows-fit k 4 x.stride x.at g.row.N (length x.plane.now) (simple-four x.edge_limit)) c.if-has_rows.true
+    c.simple_rows.ensures.value ∙ counted horizontal k x.place.stride x.place.at g.row.N x.plane.now (c.has_rows.ensures ∙ rows-fit k 4 x.place.stride x.place.at g.row.N (length x.plane.now) (simple-four x.edge_limit)) c.if-has_rows.true
 
 pub returns-else-has_rows-clause-plane_after : goal.returns-else-has_rows-clause-plane_after
 returns-else-has_rows-clause-plane_after g c =
     let x = c.args in
     let k = simple_segment x.edge_limit in
-    left-alone horizontal k x.stride x.at g.row.N x.plane.now (c.has_rows.ensures ∙ rows-fit k 4 x.stride x.at g.row.N (length x.plane.now) (simple-four x.edge_limit)) c.if-has_rows.false
+    left-alone horizontal k x.place.stride x.place.at g.row.N x.plane.now (c.has_rows.ensures ∙ rows-fit k 4 x.place.stride x.place.at g.row.N (length x.plane.now) (simple-four x.edge_limit)) c.if-has_rows.false
 
 pub returns-else-has_rows-clause-value : goal.returns-else-has_rows-clause-value
 returns-else-has_rows-clause-value g c =
     let x = c.args in
     let k = simple_segment x.edge_limit in
-    none-counted horizontal k x.stride x.at g.row.N x.plane.now (c.has_rows.ensures ∙ rows-fit k 4 x.stride x.at g.row.N (length x.plane.now) (simple-four x.edge_limit)) c.if-has_rows.false
+    none-counted horizontal k x.place.stride x.place.at g.row.N x.plane.now (c.has_rows.ensures ∙ rows-fit k 4 x.place.stride x.place.at g.row.N (length x.plane.now) (simple-four x.edge_limit)) c.if-has_rows.false

@@ -7,5 +7,5 @@ use Rattle.edges.proofs.vertical.normal_rows.Given as goal
 
 abbrev pub invariant-loop-n : goal.invariant-loop-n
 invariant-loop-n g l =
-    (l.n ≤ l.rows) × (l.plane ≡ edge_from vertical (g.E.NormalEdge.kernel l.edge.threshold l.edge.interior l.edge.limit) l.stride l.at l.n l.initial.plane) × (length l.plane ≡ length l.initial.plane)
-    × (l.missed + smoothed_from vertical (g.E.NormalEdge.kernel l.edge.threshold l.edge.interior l.edge.limit) l.stride l.at l.n l.initial.plane ≡ l.n)
+    (l.n ≤ l.rows) × (l.plane ≡ edge_from vertical (g.E.NormalEdge.kernel l.edge.threshold l.edge.interior l.edge.limit) l.place.stride l.place.at l.n l.initial.plane) × (length l.plane ≡ length l.initial.plane)
+    × (l.missed + smoothed_from vertical (g.E.NormalEdge.kernel l.edge.threshold l.edge.interior l.edge.limit) l.place.stride l.place.at l.n l.initial.plane ≡ l.n)

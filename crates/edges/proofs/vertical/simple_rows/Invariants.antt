@@ -8,5 +8,5 @@ use Rattle.edges.proofs.vertical.simple_rows.Given as goal
 
 abbrev pub invariant-loop-n : goal.invariant-loop-n
 invariant-loop-n l =
-    (l.n ≤ l.rows) × (l.plane ≡ edge_from vertical (simple_segment l.edge_limit) l.stride l.at l.n l.initial.plane) × (length l.plane ≡ length l.initial.plane)
-    × (l.smoothed ≡ smoothed_from vertical (simple_segment l.edge_limit) l.stride l.at l.n l.initial.plane)
+    (l.n ≤ l.rows) × (l.plane ≡ edge_from vertical (simple_segment l.edge_limit) l.place.stride l.place.at l.n l.initial.plane) × (length l.plane ≡ length l.initial.plane)
+    × (l.smoothed ≡ smoothed_from vertical (simple_segment l.edge_limit) l.place.stride l.place.at l.n l.initial.plane)

@@ -27,7 +27,7 @@ loop-n-preserved g c =
       omega arith,
       omega (arith, c.loop-n-test.true),
       did-next (inner_at horizontal k g.row.N x.square) g.row.N c.loop-n.n c.loop-n.invariant.0 c.loop-n.invariant.2
-          (horizontal-did k g.row.N x.square x.plane.now g.bound-3.several c.requires c.loop-n.n c.HALF.result c.loop-n.plane _ _ c.loop-n.auto.plane (c.HALF.ensures ∙ sym (g.met.E.Edge.half_is x.edge)) c.loop-n.invariant.0 c.loop-n-test.true c.horizontal-smoothed.ensures.plane_after c.horizontal-smoothed.ensures.value),
+          (horizontal-did k g.row.N x.square x.plane.now g.bound-3.several c.requires c.loop-n.n c.HALF.result c.loop-n.plane _ _ c.loop-n.auto.plane (c.HALF.ensures ∙ sym (g.met.E.Edge.half_is x.edge)) c.loop-n.invariant.0 c.loop-n-test.true (rw c.place.ensures at c.horizontal-smoothed.ensures.plane_after) (rw c.place.ensures at c.horizontal-smoothed.ensures.value)),
     )
 
 pub returns : goal.returns

@@ -13,8 +13,8 @@ returns-then-not-inside g c = inner-not vertical (g.E.Edge.kernel c.args.edge) g
 pub loop-n-init : goal.loop-n-init
 loop-n-init g c = (omega arith, omega (arith, g.bound-3.several), did-first (inner_at vertical (g.E.Edge.kernel c.args.edge) g.row.N c.args.square) g.row.N)
 
-pub overflow_sub-n : goal.overflow_sub-n
-overflow_sub-n g c = omega (arith, c.loop-n.invariant.0, c.HALF.ensures, g.met.E.Edge.half_is c.args.edge, half-most (g.E.Edge.kernel c.args.edge))
+pub overflow_sub-at : goal.overflow_sub-at
+overflow_sub-at g c = omega (arith, c.loop-n.invariant.0, c.HALF.ensures, g.met.E.Edge.half_is c.args.edge, half-most (g.E.Edge.kernel c.args.edge))
 
 pub overflow_add-smoothed : goal.overflow_add-smoothed
 overflow_add-smoothed g c =
@@ -27,7 +27,7 @@ loop-n-preserved g c =
       omega arith,
       omega (arith, c.loop-n-test.true),
       did-next (inner_at vertical k g.row.N x.square) g.row.N c.loop-n.n c.loop-n.invariant.0 c.loop-n.invariant.2
-          (vertical-did k g.row.N x.square x.plane.now g.bound-3.several c.requires c.loop-n.n c.HALF.result c.loop-n.plane _ _ c.loop-n.auto.plane (c.HALF.ensures ∙ sym (g.met.E.Edge.half_is x.edge)) c.loop-n.invariant.0 c.loop-n-test.true c.vertical-smoothed.ensures.plane_after c.vertical-smoothed.ensures.value),
+          (vertical-did k g.row.N x.square x.plane.now g.bound-3.several c.requires c.loop-n.n c.HALF.result c.loop-n.plane _ _ c.loop-n.auto.plane (c.HALF.ensures ∙ sym (g.met.E.Edge.half_is x.edge)) c.loop-n.invariant.0 c.loop-n-test.true (rw c.place.ensures at c.vertical-smoothed.ensures.plane_after) (rw c.place.ensures at c.vertical-smoothed.ensures.value)),
     )
 
 pub returns : goal.returns

@@ -10,7 +10,7 @@ overflow_sub-square g c = omega (arith, c.requires.left c.if-square-gt0.true, c.
 pub returns-then-square-gt0 : goal.returns-then-square-gt0
 returns-then-square-gt0 g c =
     let x = c.args in
-    left-did (g.E.Edge.kernel x.edge) g.row.N x.square x.plane.now g.bound-3.several c.requires c.HALF.result _ _ (c.HALF.ensures ∙ sym (g.met.E.Edge.half_is x.edge)) c.if-square-gt0.true c.vertical.ensures.plane_after c.vertical.ensures.value
+    left-did (g.E.Edge.kernel x.edge) g.row.N x.square x.plane.now g.bound-3.several c.requires c.HALF.result _ _ (c.HALF.ensures ∙ sym (g.met.E.Edge.half_is x.edge)) c.if-square-gt0.true (rw c.place.ensures at c.vertical.ensures.plane_after) (rw c.place.ensures at c.vertical.ensures.value)
 
 pub returns-else-square-gt0 : goal.returns-else-square-gt0
 returns-else-square-gt0 g c = left-not (g.E.Edge.kernel c.args.edge) g.row.N c.args.square c.args.plane.now g.bound-3.several c.requires c.if-square-gt0.false

@@ -1,24 +1,14 @@
-use Rattle.std.proofs.Common.{sym, ap, ◌∙◌, w32, w64}
-use Rattle.arithmetic.specs.Outcome.{gives}
-use Rattle.kernels.specs.Segment.{half, taps, fits_at, windowed, adjust_answer}
-use Rattle.arithmetic.proofs.Ranges as R
-use Rattle.kernels.proofs.SignedBytes.{adjustment-in}
-use Rattle.kernels.proofs.Windows.{taken}
+use Rattle.std.proofs.Common.{◌∙◌}
+use Rattle.kernels.specs.Segment.{common_adjust}
+use Rattle.kernels.proofs.LentWindows.{rest-window, rest-adjust}
 use Rattle.kernels.proofs.segments.common_adjust.Goals as goal
 
-pub overflow_cast-result : goal.overflow_cast-result
-overflow_cast-result c = R.cast? (R.got {w = w64} c.common_adjust_at.type_inv c.common_adjust_at.ensures.value (adjustment-in _ _ _ _ _)) tt
+pub returns-clause-result_value : goal.returns-clause-result_value
+returns-clause-result_value c =
+    let x = c.args in
+    c.adjust_first.ensures.result_value ∙ rest-adjust x.base x.seg.now c.if-base-seg.false x.use_outer_taps
 
-pub returns-then-has_window-clause-result_value : goal.returns-then-has_window-clause-result_value
-unfolding half taps fits_at windowed adjust_answer
-returns-then-has_window-clause-result_value c =
-    let h = c.has_window.ensures in
-    let a = R.cast {w' = w32} (R.got {w = w64} c.common_adjust_at.type_inv c.common_adjust_at.ensures.value (adjustment-in _ _ _ _ _)) tt in
-    ap gives a.val ∙ sym (taken _ _ h c.if-has_window.true)
-
-pub returns-then-has_window-clause-seg_after : goal.returns-then-has_window-clause-seg_after
-unfolding half taps fits_at windowed adjust_answer
-returns-then-has_window-clause-seg_after c =
-    let h = c.has_window.ensures in
-    let a = R.cast {w' = w32} (R.got {w = w64} c.common_adjust_at.type_inv c.common_adjust_at.ensures.value (adjustment-in _ _ _ _ _)) tt in
-    c.common_adjust_at.ensures.seg_after ∙ sym (taken _ _ h c.if-has_window.true)
+pub returns-clause-seg_after : goal.returns-clause-seg_after
+returns-clause-seg_after c =
+    let x = c.args in
+    rest-window x.base x.seg.now c.if-base-seg.false (common_adjust x.use_outer_taps) _ c.adjust_first.ensures.seg_after

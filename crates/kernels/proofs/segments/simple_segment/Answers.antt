@@ -1,19 +1,14 @@
-use Rattle.std.proofs.Common.{sym, ap, ◌∙◌}
-use Rattle.arithmetic.specs.Outcome.{gives}
-use Rattle.kernels.specs.Segment.{half, taps, fits_at, windowed, window_answer}
-use Rattle.kernels.proofs.Windows.{taken, simple-passes}
+use Rattle.std.proofs.Common.{◌∙◌}
+use Rattle.kernels.specs.Segment.{simple_segment}
+use Rattle.kernels.proofs.LentWindows.{rest-window, rest-answer}
 use Rattle.kernels.proofs.segments.simple_segment.Goals as goal
 
-pub returns-then-has_window-clause-result_value : goal.returns-then-has_window-clause-result_value
-unfolding half taps fits_at windowed window_answer
-returns-then-has_window-clause-result_value c =
-    let h = c.has_window.ensures in
+pub returns-clause-result_value : goal.returns-clause-result_value
+returns-clause-result_value c =
     let x = c.args in
-    ap gives (c.simple_segment_passed.ensures.value ∙ sym (simple-passes x.seg.now x.base x.edge_limit)) ∙ sym (taken _ _ h c.if-has_window.true)
+    c.simple_first.ensures.result_value ∙ rest-answer x.base x.seg.now c.if-base-seg.false (simple_segment x.edge_limit)
 
-pub returns-then-has_window-clause-seg_after : goal.returns-then-has_window-clause-seg_after
-unfolding half taps fits_at windowed window_answer
-returns-then-has_window-clause-seg_after c =
-    let h = c.has_window.ensures in
+pub returns-clause-seg_after : goal.returns-clause-seg_after
+returns-clause-seg_after c =
     let x = c.args in
-    c.simple_segment_passed.ensures.seg_after ∙ sym (taken _ _ h c.if-has_window.true)
+    rest-window x.base x.seg.now c.if-base-seg.false (simple_segment x.edge_limit) _ c.simple_first.ensures.seg_after

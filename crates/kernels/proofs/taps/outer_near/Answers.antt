@@ -1,7 +1,6 @@
-use Rattle.std.proofs.Common.{◌&&◌}
 use Rattle.kernels.specs.Private.Taps.{outer_near}
 use Rattle.kernels.proofs.taps.outer_near.Goals as goal
 
 pub returns : goal.returns
 unfolding outer_near
-returns c = λ j. c.both_near.ensures j && c.both_near-2.ensures j
+returns c = cc

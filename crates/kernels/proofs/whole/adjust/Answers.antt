@@ -1,34 +1,37 @@
-use Rattle.std.proofs.Common.{◌+◌, set, ℤ, ap, ◌∙◌, w16, w64, to_z, of_z}
+use Rattle.std.proofs.Common.{◌-◌, ◌/◌, List, ℤ, ap, ◌∙◌, arith, w64, of_z}
 use Rattle.arithmetic.specs.Numbers.{u2s}
-use Rattle.kernels.specs.Kernels.{filter_value, adjustment, adjusted_p0, adjusted_q0}
-use Rattle.kernels.specs.Private.Windows.{adjusted_at}
-use Rattle.arithmetic.specs.Numbers.{at_most123}
 use Rattle.arithmetic.proofs.Ranges as R
+use Rattle.kernels.specs.declared.taps.Near.{Near}
+use Rattle.kernels.specs.Kernels.{filter_value, adjustment}
+use Rattle.kernels.specs.Private.Windows.{stored_cut}
+use Rattle.kernels.specs.Private.Moves.{capped, two}
 use Rattle.kernels.proofs.SignedBytes.{filter-in}
-use Rattle.kernels.proofs.Cuts.{raised, lowered, gain-is, loss-is}
+use Rattle.kernels.proofs.Cuts.{loss-is}
+use Rattle.kernels.proofs.MovedTaps.{holds, capped-in, two-cut}
 use Rattle.kernels.proofs.whole.adjust.Goals as goal
 
-pub returns-clause-value : goal.returns-clause-value
-unfolding adjustment adjusted_p0 adjusted_q0 adjusted_at
-returns-clause-value c =
-    let a : ℤ = filter_value c.args.outer (u2s c.args.p1) (u2s c.args.p0) (u2s c.args.q0) (u2s c.args.q1) in
-    let value : R.Is w16 (of_z w16 c.window_value.result) a 128 = R.got c.window_value.type_inv c.window_value.ensures (filter-in _ _ _ _ _) in
-    let less : R.Is w16 (of_z w16 c.at_most_123-a.result) (at_most123 a) 128 = R.got c.at_most_123-a.type_inv (c.at_most_123-a.ensures ∙ ap at_most123 value.val) (R.most-in a value.inr) in
-    let most : R.Is w64 (of_z w64 (to_z w16 (of_z w16 c.at_most_123-a.result))) (at_most123 a) 128 = R.cast less tt in
-    let h = value.inr in
-    let at = c.args.at in
-    (R.shr 8 (R.add most (R.lit w64 4 tt) tt) tt).val ∙ loss-is a h
+pub two-requires : goal.two-requires
+two-requires g c =
+    let value : R.Is w64 (of_z w64 c.capped-a.result) (capped c.args.outer c.args.w) 128 = R.got c.capped-a.type_inv c.capped-a.ensures (capped-in c.args.outer c.args.w) in
+    holds value (omega arith)
 
-pub returns-clause-seg_after : goal.returns-clause-seg_after
-unfolding adjustment adjusted_p0 adjusted_q0 adjusted_at
-returns-clause-seg_after c =
-    let a : ℤ = filter_value c.args.outer (u2s c.args.p1) (u2s c.args.p0) (u2s c.args.q0) (u2s c.args.q1) in
-    let value : R.Is w16 (of_z w16 c.window_value.result) a 128 = R.got c.window_value.type_inv c.window_value.ensures (filter-in _ _ _ _ _) in
-    let less : R.Is w16 (of_z w16 c.at_most_123-a.result) (at_most123 a) 128 = R.got c.at_most_123-a.type_inv (c.at_most_123-a.ensures ∙ ap at_most123 value.val) (R.most-in a value.inr) in
-    let most : R.Is w64 (of_z w64 (to_z w16 (of_z w16 c.at_most_123-a.result))) (at_most123 a) 128 = R.cast less tt in
-    let h = value.inr in
-    let at = c.args.at in
-    c.cut2.ensures
-    ∙ (λ i. set (set c.args.seg.now
-    at (raised c.args.p0 (gain-is a h) (R.add (R.sample c.ranges.p0.fits) (R.shr 8 (R.add most (R.lit w64 3 tt) tt) tt) tt) i))
-    (at + 1) (lowered c.args.q0 (loss-is a h) (R.sub (R.sample c.ranges.q0.fits) (R.shr 8 (R.add most (R.lit w64 4 tt) tt) tt) tt) i))
+pub overflow_add-result : goal.overflow_add-result
+overflow_add-result g c =
+    let value : R.Is w64 (of_z w64 c.capped-a.result) (capped c.args.outer c.args.w) 128 = R.got c.capped-a.type_inv c.capped-a.ensures (capped-in c.args.outer c.args.w) in
+    R.add? value (R.lit w64 4 tt) tt
+
+pub returns-clause-value : goal.returns-clause-value
+unfolding adjustment capped
+returns-clause-value g c =
+    let w : Near = c.args.w in
+    let f : ℤ = filter_value c.args.outer (u2s w.p1) (u2s w.p0) (u2s w.q0) (u2s w.q1) in
+    let value : R.Is w64 (of_z w64 c.capped-a.result) (capped c.args.outer w) 128 = R.got c.capped-a.type_inv c.capped-a.ensures (capped-in c.args.outer w) in
+    (R.shr 8 (R.add value (R.lit w64 4 tt) tt) tt).val ∙ loss-is f (filter-in c.args.outer _ _ _ _)
+
+pub returns-clause-window_after : goal.returns-clause-window_after
+returns-clause-window_after g c =
+    let x = c.args in
+    let value : R.Is w64 (of_z w64 c.capped-a.result) (capped x.outer x.w) 128 = R.got c.capped-a.type_inv c.capped-a.ensures (capped-in x.outer x.w) in
+    c.store_plain_or_cut.ensures
+    ∙ ap (λ (vs : List ℤ). stored_cut ((g.row.W - 2) / 2) vs x.window.now) (c.two.ensures ∙ ap (λ (a : ℤ). two a x.w) value.val)
+    ∙ two-cut x.outer g.row.W x.w x.window.now

@@ -13,14 +13,14 @@ use Rattle.scratch.proofs.copies.copy_planes.Goals as goal
 pub returns-then-is_zero-clause-copied : goal.returns-then-is_zero-clause-copied
 returns-then-is_zero-clause-copied c = sym (no-grid _ _ _ (sym c.is_zero.ensures ∙ c.if-is_zero.true))
 
-pub overflow_mul-cols : goal.overflow_mul-cols
-overflow_mul-cols c =
+pub overflow_mul-mb_cols : goal.overflow_mul-mb_cols
+overflow_mul-mb_cols c =
     let there : zero_grid (grid_of c.args.layout) ≡ false = sym c.is_zero.ensures ∙ c.if-is_zero.false in
     let lent : Sound (grid_of c.args.layout) (planes_in c.args.picture) = grid-sound _ _ c.requires.lent there in
     let k = lent.few in omega (arith, k)
 
-pub overflow_mul-rows : goal.overflow_mul-rows
-overflow_mul-rows c =
+pub overflow_mul-mb_rows : goal.overflow_mul-mb_rows
+overflow_mul-mb_rows c =
     let there : zero_grid (grid_of c.args.layout) ≡ false = sym c.is_zero.ensures ∙ c.if-is_zero.false in
     let lent : Sound (grid_of c.args.layout) (planes_in c.args.picture) = grid-sound _ _ c.requires.lent there in
     let k = lent.few in omega (arith, k)
@@ -33,14 +33,14 @@ copy_rows-requires c =
     let scratch : Sound (grid_of c.args.layout) (planes_lent c.args.scratch.now) = grid-sound _ _ c.requires.scratch there in
     (lent.planes luma, scratch.planes luma)
 
-pub overflow_mul-cols-2 : goal.overflow_mul-cols-2
-overflow_mul-cols-2 c =
+pub overflow_mul-mb_cols-2 : goal.overflow_mul-mb_cols-2
+overflow_mul-mb_cols-2 c =
     let there : zero_grid (grid_of c.args.layout) ≡ false = sym c.is_zero.ensures ∙ c.if-is_zero.false in
     let lent : Sound (grid_of c.args.layout) (planes_in c.args.picture) = grid-sound _ _ c.requires.lent there in
     let k = lent.few in omega (arith, k)
 
-pub overflow_mul-rows-2 : goal.overflow_mul-rows-2
-overflow_mul-rows-2 c =
+pub overflow_mul-mb_rows-2 : goal.overflow_mul-mb_rows-2
+overflow_mul-mb_rows-2 c =
     let there : zero_grid (grid_of c.args.layout) ≡ false = sym c.is_zero.ensures ∙ c.if-is_zero.false in
     let lent : Sound (grid_of c.args.layout) (planes_in c.args.picture) = grid-sound _ _ c.requires.lent there in
     let k = lent.few in omega (arith, k)
@@ -53,14 +53,14 @@ copy_rows-requires-2 c =
     let scratch : Sound (grid_of c.args.layout) (planes_lent c.args.scratch.now) = grid-sound _ _ c.requires.scratch there in
     (lent.planes chroma_u, scratch.planes chroma_u)
 
-pub overflow_mul-cols-3 : goal.overflow_mul-cols-3
-overflow_mul-cols-3 c =
+pub overflow_mul-mb_cols-3 : goal.overflow_mul-mb_cols-3
+overflow_mul-mb_cols-3 c =
     let there : zero_grid (grid_of c.args.layout) ≡ false = sym c.is_zero.ensures ∙ c.if-is_zero.false in
     let lent : Sound (grid_of c.args.layout) (planes_in c.args.picture) = grid-sound _ _ c.requires.lent there in
     let k = lent.few in omega (arith, k)
 
-pub overflow_mul-rows-3 : goal.overflow_mul-rows-3
-overflow_mul-rows-3 c =
+pub overflow_mul-mb_rows-3 : goal.overflow_mul-mb_rows-3
+overflow_mul-mb_rows-3 c =
     let there : zero_grid (grid_of c.args.layout) ≡ false = sym c.is_zero.ensures ∙ c.if-is_zero.false in
     let lent : Sound (grid_of c.args.layout) (planes_in c.args.picture) = grid-sound _ _ c.requires.lent there in
     let k = lent.few in omega (arith, k)

@@ -1,0 +1,17 @@
+use Rattle.std.proofs.Common.{◌<◌, arith, w64, of_z, rules}
+use Rattle.arithmetic.proofs.Ranges as R
+use Rattle.kernels.specs.declared.taps.Near.{Near}
+use Rattle.kernels.specs.Private.Taps.{sum_of}
+use Rattle.kernels.proofs.Plain.{sum-in}
+use Rattle.kernels.proofs.MovedTaps.{holds}
+use Rattle.kernels.proofs.tries.try_high.Goals as goal
+
+pub two-requires : goal.two-requires
+two-requires c =
+    let w : Near = c.args.w.near in
+    let p1 : w.p1 < 256 = search rules in
+    let p0 : w.p0 < 256 = search rules in
+    let q0 : w.q0 < 256 = search rules in
+    let q1 : w.q1 < 256 = search rules in
+    let value : R.Is w64 (of_z w64 c.sum.result) (sum_of w) 2048 = R.got c.sum.type_inv c.sum.ensures (sum-in w p1 p0 q0 q1) in
+    holds value (omega arith)

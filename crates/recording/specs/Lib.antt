@@ -1,0 +1,2 @@
+-- What a call that changes nothing is lent.
+pub mod Stripes

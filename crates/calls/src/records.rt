@@ -6,7 +6,7 @@ pub struct MacroblockModes {
     pub y_mode: IntraYMode,
     // A segment above 3 counts as 3, and none as 0.
     pub segment_id: Option<u8>,
-    // Of no other field: a macroblock has the others with coefficients and without.
+    // A flag of its own: each other field stands with coefficients and without.
     pub has_coeffs: bool,
     pub ref_frame: Option<RefFrame>,
     pub inter_mode: Option<InterMode>,

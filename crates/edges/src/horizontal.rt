@@ -1,5 +1,5 @@
 // Horizontal edges (RFC 6386, section 15.1): the rows of taps across the edge are gathered, run by value, and scattered.
-// `at` is the first sample of the first row.
+// `place.at` is the first sample of the first row.
 ghost use Rattle.std.specs.Prelude.{◌≡◌, ℕ, ◌-◌, ◌≤◌, ◌<◌, [], get_or, length};
 ghost use Rattle.kernels.specs.Segment.{simple_segment};
 ghost use Rattle.planes.specs.Edges.{horizontal};
@@ -43,7 +43,7 @@ fn scatter_rows<const M: usize, const N: usize>(
     requires signed_rows { (k : ℕ) → first ≤ k → k < end → SignedRow N (get_or rows k []) }
     ensures { plane.new ≡ store_rows N place.stride place.at first (end - first) rows.entry plane.old }
 {
-    // k is a row of the plane and of the array.
+    // By index: k places the row, and the plane is written.
     for k in first..end {
         scatter(plane, place.at + k * place.stride, rows[k]);
     }

@@ -31,7 +31,7 @@ pub trait NormalEdge {
     fn edge_limit(limits: LoopFilterParams) -> u8
         ensures { result ≡ edge_limit limits };
 
-    // The kernel on taps.
+    // The kernel on taps, whose range is a clause, as in `position`.
     fn on_taps(edge: EdgeLimits, taps: EightTaps) -> InnerTaps
         requires { SignedEight taps }
         ensures { result ≡ inner_taps (kernel edge.threshold edge.interior edge.limit) taps };
@@ -56,7 +56,8 @@ pub(crate) fn limits_of<E: NormalEdge>(limits: LoopFilterParams) -> EdgeLimits
     }
 }
 
-// Each kind names its own kernel, limit and number: that is all in which the two impls are alike.
+// The two kinds test alike; each then moves the taps by its own rule. The window's kernel is named in each, since a trait's constant can't
+// stand as a const argument.
 #[derive(Clone, Copy)]
 pub struct MacroblockEdge;
 

@@ -2,7 +2,7 @@
 ghost use Rattle.std.specs.Prelude.{◌≡◌, ◌&&◌, ◌+◌, ◌*◌, ◌<◌, leb};
 
 // `at` is the index of the first tap at the edge's first position, and rows are `stride` apart: no slice has the samples of an edge and no
-// others, so that this goes beside the plane.
+// others, so that this goes beside the plane. An edge limit is the kernel's, and goes beside both.
 #[derive(Clone, Copy)]
 pub struct EdgePlace {
     pub stride: usize,
@@ -10,7 +10,7 @@ pub struct EdgePlace {
 }
 
 impl EdgePlace {
-    // By the length alone, since the plane is lent to others for writing.
+    // By the length alone: no sample is read.
     // `across` samples from `at` on, and in each row down to the one `last` rows below, lie among `len` samples. No sum or product can wrap.
     // A caller that names `last` as a number has a division by that number, which the compiler turns into a product.
     pub(crate) fn has_room(self, len: usize, last: usize, across: usize) -> bool

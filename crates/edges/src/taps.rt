@@ -19,7 +19,8 @@ fn s2u16(v: i16) -> u8
     (v + 128) as u8
 }
 
-// N samples from `at` on. One index walks the plane and the row: their part of the plane, lent by itself, would be a third name for them.
+// N samples from `at` on. One index walks the plane and the row.
+// `at` goes beside the plane, as an EdgePlace does.
 pub(crate) fn gather<const N: usize>(plane: &[u8], at: usize) -> [i16; N]
     requires { at + N ≤ length plane.now }
     ensures { result ≡ row_at N at plane.now }
@@ -31,7 +32,7 @@ pub(crate) fn gather<const N: usize>(plane: &[u8], at: usize) -> [i16; N]
     row
 }
 
-// The same, stored, by one index too.
+// The same, stored. By index: of what is written through `iter_mut` a proof knows only the length.
 pub(crate) fn scatter<const N: usize>(plane: &mut [u8], at: usize, row: [i16; N])
     requires at_in_bounds { at + N ≤ length plane.old }
     requires signed_row { SignedRow N row }

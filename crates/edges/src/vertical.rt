@@ -1,5 +1,5 @@
 // Vertical edges (RFC 6386, section 15.1): at each row, the samples across the edge are lent from mid-row to the kernel, which writes them.
-// `at` is the first tap in the first row.
+// `place.at` is the first tap in the first row.
 ghost use Rattle.std.specs.Prelude.{◌≡◌, ◌+◌, ◌*◌, ◌-◌, ◌≤◌, ◌<◌, length};
 ghost use Rattle.kernels.specs.Answers.{kernel_outcome};
 ghost use Rattle.kernels.specs.Segment.{simple_segment, mark};
@@ -49,7 +49,7 @@ pub(crate) fn normal_rows<E: NormalEdge>(
     ensures plane_after { plane.new ≡ edge_from vertical (E.kernel edge.threshold edge.interior edge.limit) place.stride place.at rows plane.old }
     ensures missed_after { missed.new + smoothed_from vertical (E.kernel edge.threshold edge.interior edge.limit) place.stride place.at rows plane.old ≡ rows }
 {
-    // n gives the row's place.
+    // Not `chunks_mut` by the stride, of whose writes a proof knows only the length, and whose last chunk is shorter.
     for n in 0..rows {
         let a = place.at + n * place.stride;
         let e = a + 8;
@@ -67,7 +67,7 @@ fn simple_rows(plane: &mut [u8], place: EdgePlace, rows: usize, edge_limit: u8) 
     ensures value { result ≡ smoothed_from vertical (simple_segment edge_limit) place.stride place.at rows plane.old }
 {
     let mut smoothed: usize = 0;
-    // n gives the row's place.
+    // Nor here.
     for n in 0..rows {
         let a = place.at + n * place.stride;
         let e = a + 4;
@@ -78,8 +78,8 @@ fn simple_rows(plane: &mut [u8], place: EdgePlace, rows: usize, edge_limit: u8) 
     smoothed
 }
 
-// Across the rows there is a function of the same form: it asks for eight rows of room and gathers them, where this asks for N and lends each.
-// A normal edge of N rows: a macroblock's left border, or one between subblocks.
+// A normal edge of N rows: a macroblock's left border, or one between subblocks. The function across the rows asks for eight rows of room
+// and gathers them, where this asks for N and lends each.
 pub fn normal_edge<E: NormalEdge, const N: usize>(
     plane: &mut [u8],
     place: EdgePlace,

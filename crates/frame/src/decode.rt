@@ -30,10 +30,10 @@ pub(crate) fn inter_mode_of(byte: u8) -> Option<InterMode>
     inter_mode_case(byte).unwrap_or(Some(InterMode::Split))
 }
 
-// The mode is B or the flag is set.
+// The mode is B, or there are coefficients.
 #[tactic(auto, unfolding(calls::specs::Pass::is_b))]
-pub(crate) fn inner_edges(mode: IntraYMode, flag: u8) -> bool
-    ensures { result ≡ (is_b mode || not (eqb flag 0)) }
+pub(crate) fn inner_edges(mode: IntraYMode, coded: bool) -> bool
+    ensures { result ≡ (is_b mode || coded) }
 {
-    (mode == IntraYMode::B) | (flag != 0)
+    (mode == IntraYMode::B) | coded
 }

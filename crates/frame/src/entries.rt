@@ -37,7 +37,7 @@ pub struct InterRecords<'a> {
     pub list: &'a [MacroblockModes],
 }
 
-// The four plans read four kinds of entries, each in one way: by one list or by five, by byte or by record.
+// Each of the four plans reads its own entries: three byte lists, five, or one list of records, with a reference or without.
 impl<'a> Entries for KeyLists<'a> {
     ghost use Rattle.std.specs.Prelude.{◌<◌, length};
     ghost use Rattle.calls.specs.Entries.{KeyCarried};
@@ -66,7 +66,7 @@ impl<'a> Entries for KeyLists<'a> {
     fn plan(self, config: FrameFilterConfig, m: usize) -> MacroblockPlan {
         let mode = mode_of(self.modes[m]);
         let level = config.key_mb_level(self.segments[m], mode);
-        let inside = inner_edges(mode, self.flags[m]);
+        let inside = inner_edges(mode, self.flags[m] != 0);
         MacroblockPlan { level, inside }
     }
 
@@ -109,7 +109,7 @@ impl<'a> Entries for InterLists<'a> {
             inter_mode,
         };
         let level = config.mb_level(self.key.segments[m], prediction);
-        let inside = inner_edges(mode, self.key.flags[m]);
+        let inside = inner_edges(mode, self.key.flags[m] != 0);
         MacroblockPlan { level, inside }
     }
 
@@ -193,10 +193,10 @@ fn segment_of(mb: MacroblockModes) -> u8
     mb.segment_id.unwrap_or(0)
 }
 
-// The mode is B, or there are coefficients.
+// As `inner_edges`.
 #[tactic(auto, unfolding(calls::specs::Pass::inside_of, calls::specs::Entries::inter_record, calls::specs::Pass::is_b))]
 fn has_inner_edges(mb: MacroblockModes) -> bool
     ensures { result ≡ inside_of (inter_record mb) }
 {
-    (mb.y_mode == IntraYMode::B) | mb.has_coeffs
+    inner_edges(mb.y_mode, mb.has_coeffs)
 }

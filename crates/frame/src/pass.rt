@@ -17,7 +17,7 @@ use levels::config::FrameFilterConfig;
 use planes::layout::PlaneLayout;
 use planes::picture::PictureMut;
 
-// Planes, layout, entries and settings are document 01's parameters of a pass, in its order.
+// Planes, layout, entries and settings are lent apart, as document 01 says.
 // Macroblocks `from` to `to` - 1. The answer: how many positions were smoothed.
 fn filter_range<E: Entries>(
     picture: &mut PictureMut<'_>,

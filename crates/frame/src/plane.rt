@@ -17,7 +17,7 @@ pub(crate) struct Square {
 }
 
 impl Square {
-    // Of an edge in this plane whose first tap is sample `at`.
+    // The place of an edge in this plane, whose first tap is sample `at`.
     fn place(self, at: usize) -> EdgePlace
         ensures { result ≡ place_of self at }
     {
@@ -28,7 +28,7 @@ impl Square {
     }
 }
 
-// A clause on both, and no method of either: the square lies in this plane.
+// Plane and square apart, here and below: a struct of both would hold the plane by reference, with a fact to prove after each write.
 fn left<E: Edge<N>, const N: usize>(edge: E, plane: &mut [u8], square: Square) -> usize
 where
     Samples: EdgeLength<N>,

@@ -17,7 +17,7 @@ use limit_table::table::limits_at;
 use planes::layout::PlaneLayout;
 use planes::picture::PictureMut;
 
-// The square of `side` samples of the macroblock in this row and column. The bounds are of a layout that was judged; callers' own have none.
+// The square of `side` samples of the macroblock in this row and column. The bounds are of a layout that was judged; one as callers make it has none.
 fn square(side: usize, stride: usize, row: usize, column: usize) -> Square
     requires side_bound { side ≤ 16 }
     requires stride_bound { stride ≤ 65536 }

@@ -12,8 +12,8 @@ use levels::config::FrameFilterConfig;
 use planes::layout::PlaneLayout;
 use planes::picture::PictureMut;
 
-// It takes what the pass takes.
-// The pass of the entries, turned off by header level 0: then its macroblocks count as done, and nothing is smoothed.
+// The pass of the entries, turned off by header level 0: then its macroblocks count as done, and nothing is smoothed. It takes what the
+// pass takes.
 pub fn loop_filter_frame<E: Entries>(
     picture: &mut PictureMut<'_>,
     layout: PlaneLayout,

@@ -11,7 +11,7 @@ use levels::config::FrameFilterConfig;
 #[derive(Clone, Copy, Debug, PartialEq, Eq)]
 pub struct MacroblockPlan {
     pub level: u8,
-    // Of any level: no Option of it.
+    // Stands at any level, so it is no Option.
     pub inside: bool,
 }
 
@@ -29,7 +29,7 @@ pub trait Entries: Copy {
     fn wrong_length(self, n: usize) -> bool
         ensures { result ≡ pass.wrong_length (carried self) n };
 
-    // 6
+    // 6: a byte of an entry has no case.
     fn bad_entry(self) -> bool
         ensures { result ≡ pass.bad_entry (carried self) };
 
@@ -52,8 +52,8 @@ pub fn any_above(list: &[u8], most: u8) -> bool
     found
 }
 
-// Three lists and no list of entries: so document 01 has callers lend them.
-// 6 in the inter pass: a mode above 4, a reference above 3 or an inter mode above 5.
+// 6 in the inter pass: a mode above 4, a reference above 3 or an inter mode above 5. Three lists and no list of entries, as callers lend
+// them by document 01.
 #[tactic(auto, unfolding(levels::specs::Encodings::bad_mode, levels::specs::Encodings::bad_reference, levels::specs::Encodings::bad_inter_mode))]
 pub fn bad_entries(modes: &[u8], references: &[u8], inter_modes: &[u8]) -> bool
     ensures { result ≡ (list_any bad_mode modes.now || list_any bad_reference references.now || list_any bad_inter_mode inter_modes.now) }
@@ -64,7 +64,7 @@ pub fn bad_entries(modes: &[u8], references: &[u8], inter_modes: &[u8]) -> bool
     mode | reference | inter_mode
 }
 
-// The length of a list is not n.
+// The length of a list is not n, the number of macroblocks.
 #[tactic(auto, unfolding(calls::specs::Entries::length_is_not))]
 pub fn length_is_not<T>(list: &[T], n: usize) -> bool
     ensures { result ≡ length_is_not n list.now }

@@ -8,11 +8,11 @@ use crate::limits::EdgeLimits;
 #[derive(Clone, Copy)]
 pub(crate) struct Bounds {
     pub limits: EdgeLimits,
-    // Of 4 * |p0 - q0| + |p1 - q1|: the edge test passes, and every sum of the filter value is a signed byte.
+    // Bound on 4 * |p0 - q0| + |p1 - q1|: the edge test passes, and every sum of the filter value is a signed byte.
     pub sum: u8,
-    // Of |p1 - p0| and |q1 - q0|: the interior test passes, and the variance is low.
+    // Bound on |p1 - p0| and |q1 - q0|: the interior test passes, and the variance is low.
     pub inner: u8,
-    // Of |p0 - q0|, which with `inner` keeps the sum: |p1 - q1| is at most |p0 - q0| + 2 * inner.
+    // Bound on |p0 - q0|, which with `inner` keeps the sum: |p1 - q1| is at most |p0 - q0| + 2 * inner.
     pub step: u8,
 }
 

@@ -13,7 +13,8 @@ pub(crate) fn two(a: i64, w: Near) -> [i64; 2]
     [w.p0 as i64 + ((a + 3) >> 3), w.q0 as i64 - ((a + 4) >> 3)]
 }
 
-// The inner four by subblock_filter without high variance. Half of what q0 loses is (a + 12) >> 4.
+// The inner four by subblock_filter without high variance. Half of what q0 loses is (a + 12) >> 4. Not `two` between p1 and q1: the proof
+// did not close on the elements of its array.
 pub(crate) fn four(a: i64, w: Near) -> [i64; 4]
     requires { mag a < 2048 }
     ensures { result ≡ spec.four a w }

@@ -10,8 +10,7 @@ use crate::tries::{try_high, try_low};
 use crate::values::low_variance;
 use crate::whole::whole;
 
-// Taps and bounds are what was read of the window and the limits, and the window is lent for writing: no struct can hold the three.
-// Low variance.
+// Low variance. A struct of the window, its taps and its bounds would hold the window by reference, and be opened in each function.
 fn low<const WIDE: bool>(window: &mut [u8; 8], w: Taps, s: Bounds) -> bool
     requires window { Window window.old w s }
     requires low { inner_near s.inner w ≡ true }

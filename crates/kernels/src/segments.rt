@@ -17,7 +17,8 @@ pub fn has_window(n: usize, taps: usize, base: usize) -> bool
     n.checked_sub(taps).is_some_and(|last| base <= last)
 }
 
-// common_adjust on the first samples of a slice.
+// common_adjust on the first samples of a slice. Each kernel has these two steps: a function that gave back the window that it lends would
+// need a clause on what its bytes end as.
 #[tactic(auto, unfolding(crate::specs::Segment::adjust_answer, crate::specs::Segment::windowed, crate::specs::Segment::fits_at, crate::specs::Segment::taps, crate::specs::Segment::half))]
 fn adjust_first(outer: bool, seg: &mut [u8]) -> Result<i32, KernelRefusal>
     ensures result_value { adjust_outcome result ≡ adjust_answer outer seg.old 0 }
@@ -58,7 +59,7 @@ fn simple_passed(edge: u8, window: &mut [u8; 4]) -> bool
     passes
 }
 
-// And on the first samples of a slice. What follows for the normal kernels has their limits, their window and their answer in each line.
+// The same on the first samples of a slice.
 #[tactic(auto, unfolding(crate::specs::Segment::window_answer, crate::specs::Segment::windowed, crate::specs::Segment::fits_at, crate::specs::Segment::taps, crate::specs::Segment::half))]
 fn simple_first(edge: u8, seg: &mut [u8]) -> Result<bool, KernelRefusal>
     ensures result_value { kernel_outcome result ≡ window_answer (simple_segment edge) seg.old 0 }

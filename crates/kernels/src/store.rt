@@ -27,8 +27,8 @@ fn are_bytes<const N: usize>(values: &[i64; N]) -> bool
     all
 }
 
-// Stores the values if all of them are bytes, and answers whether they are. One index walks the window and the values: a slice of the
-// window beside them would be three lines for one.
+// Stores the values if all of them are bytes, and answers whether they are. By index: of what is
+// written through `iter_mut` a proof knows only the length.
 pub(crate) fn store_plain<const W: usize, const N: usize>(
     window: &mut [u8; W],
     values: [i64; N],
@@ -55,7 +55,7 @@ pub(crate) fn store_cut<const W: usize, const N: usize>(window: &mut [u8; W], va
     }
 }
 
-// The same where most values are bytes as they are: one branch is then cheaper than cutting each.
+// The same, for values of which most are bytes: one branch is then cheaper than cutting each.
 pub(crate) fn store_plain_or_cut<const W: usize, const N: usize>(
     window: &mut [u8; W],
     values: [i64; N],

@@ -8,12 +8,12 @@ pub struct FrameFilterConfig {
     pub key_frame: bool,
     pub loop_filter_level: u8,
     pub sharpness_level: u8,
-    // Beside the numbers and not an Option of them: off, they stay for a later frame that has it on.
+    // Flag and numbers apart, here and below, as the Rust has them and the C functions pass them.
     pub segmentation_enabled: bool,
     // A segment's number replaces the header's level, else it is added to it.
     pub segment_abs: bool,
     pub segment_lf_level: [i16; LoopFilterParams::SEGMENTS],
-    // loop_filter_adj_enable: the deltas below are added. Off, they stay too.
+    // loop_filter_adj_enable: the deltas below are added.
     pub delta_enabled: bool,
     // ref_delta[CURRENT_FRAME], for a macroblock with no reference.
     pub ref_delta_current: i16,

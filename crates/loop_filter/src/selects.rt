@@ -68,8 +68,8 @@ pub extern "C" fn vp8lf_reconstruction_ssd<'s>(
     }
 }
 
-// An answer of its own for each C function, with a parameter for each of its fields.
-// Returns 0 and puts the chosen pair and the count, or returns the number of the refusal.
+// Returns 0 and puts the chosen pair and the count, or returns the number of the refusal. Each C function has an answer of its own, and a
+// parameter for each of its fields.
 fn put_choice(
     answer: Result<FilterParams, SearchRefusal>,
     level: &mut u8,

@@ -16,8 +16,8 @@ pub enum GridRefusal {
     ShortPlane,
 }
 
-// By the length alone: 3 is judged of planes that are lent for reading or for writing. The bounds are of a layout that 1 and 2 let pass.
-// One plane's part of 3: no sample stands at the index of the grid's last one.
+// One plane's part of 3: no sample stands at the index of the grid's last one. By the length alone: no sample is read. The bounds are of a
+// layout that 1 and 2 let pass; one as callers make it has none.
 fn short_plane(len: usize, rows: usize, stride: usize, width: usize) -> bool
     requires { (0 < rows) × (rows ≤ 16384) × (stride ≤ 65536) × (0 < width) × (width ≤ 16384) }
     ensures { result ≡ ltb len ((rows - 1) * stride + width) }

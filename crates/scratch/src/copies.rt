@@ -10,7 +10,7 @@ use planes::grid::GridRefusal;
 use planes::layout::PlaneLayout;
 use planes::picture::{Picture, PictureMut};
 
-// n samples from the same place on. The rows are apart in both planes, so that no slice has a row of both.
+// n samples from one place on in both planes, which have one stride.
 fn copy_row(source: &[u8], into: &mut [u8], from: usize, n: usize)
     requires { (from + n ≤ length source.now) × (from + n ≤ length into.old) }
     ensures { into.new ≡ copy_row source.now from n into.old }

@@ -34,8 +34,8 @@ fn settings_at(config: FrameFilterConfig, level: u8, sharpness: u8) -> FrameFilt
     }
 }
 
-// Input and entries are lent for reading, the scratch planes for writing, so that they go apart.
 // The candidate's planes in the grid of the scratch planes: the unfiltered copy, and but for level 0 one whole pass. Where 1, 2 or 3 holds of planes or scratch planes, these are left alone.
+// Entries are apart from the input, which is one type for both searches, and the scratch planes from both: they are written.
 pub fn make_candidate<E: Entries>(
     input: SearchInput<'_>,
     entries: E,

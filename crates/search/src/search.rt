@@ -19,8 +19,8 @@ use planes::picture::PictureMut;
 use sums::answers::SearchRefusal;
 use sums::sums::reconstruction_ssd;
 
-// Ready is of all that is lent, some for reading and the scratch planes for writing: no struct has both, here and below.
-// A trial: a candidate is scored and taken if it is better, or passed over.
+// A trial: a candidate is scored and taken if it is better, or passed over. Ready is a clause, here and below: it tells of the scratch
+// planes as they are, and a struct would prove it anew after each candidate.
 fn try_candidate<E: Entries>(
     input: SearchInput<'_>,
     entries: E,

@@ -3,7 +3,7 @@ ghost use Rattle.std.specs.Prelude.{◌≡◌, ◌+◌, ◌<◌, cond, eqb};
 ghost use Rattle.search.specs.Candidates.{near};
 ghost use Rattle.search.specs.Private.SearchCode.{coarse_at, near_trial, sharpness_trial, trial_of, taken, with_winner};
 
-const HIGHEST_LEVEL: u8 = 63;
+const HIGHEST_LEVEL: usize = 63;
 
 // Trials 0 to 15 are the coarse levels.
 const COARSE_END: usize = 16;
@@ -14,8 +14,8 @@ const LEVELS_END: usize = 80;
 // Trials 80 to 87 are the sharpness values 0 to 7.
 pub(crate) const TRIALS: usize = 88;
 
-// More than the search tells of it (`FilterParams`), since these decide the next trials.
-// The best candidate so far, its sum, the number of candidates scored at a level above 0, and the winner of the coarse levels.
+// The best candidate so far, its sum, the number of candidates scored at a level above 0, and the winner of the coarse levels: more than
+// FilterParams, since these decide the next trials.
 #[derive(Clone, Copy, Debug, PartialEq, Eq)]
 pub struct Best {
     pub level: u8,
@@ -37,11 +37,7 @@ fn coarse_level(i: usize) -> u8
     requires { i < 16 }
     ensures { result ≡ coarse_at i }
 {
-    if i < 15 {
-        let level = 4 * i + 4;
-        return level as u8;
-    }
-    HIGHEST_LEVEL
+    (4 * i + 4).min(HIGHEST_LEVEL) as u8
 }
 
 // Within 3 of the winner.
@@ -49,13 +45,11 @@ fn coarse_level(i: usize) -> u8
 fn is_near(winner: u8, level: u8) -> bool
     ensures { result ≡ near winner level }
 {
-    let w = usize::from(winner);
-    let l = usize::from(level);
-    (w <= l + 3) & (l <= w + 3)
+    winner.abs_diff(level) <= 3
 }
 
-// By its number, as document 01 orders the trials: no state goes from one to the next but the best.
 // Trial i: a coarse level; a level near the winner but the best of the moment; another sharpness unless the best level is 0. None is passed over.
+// One loop over the numbers of all trials: of three, each would need the invariant of the count and of what is lent.
 #[tactic(auto, unfolding(crate::specs::Private::SearchCode::trial_of))]
 pub(crate) fn next_trial(base: u8, i: usize, best: Best) -> Option<Trial>
     requires { i < 88 }
@@ -109,7 +103,7 @@ fn counted(level: u8, count: usize) -> usize
     count + usize::from(level != 0)
 }
 
-// Only a strictly smaller sum replaces. The trial is a part of Best without a name there.
+// Only a strictly smaller sum replaces.
 #[tactic(auto, unfolding(crate::specs::Private::SearchCode::taken))]
 pub(crate) fn take(best: Best, trial: Trial, sum: u64) -> Best
     requires { best.«count» < 100 }

@@ -40,8 +40,7 @@ fn take(best: Best, level: u8, sharpness: u8, sum: u64) -> Best
     best
 }
 
-// What it takes goes apart, as in the other search.
-// Pair i is made in the scratch planes, and taken if it is better.
+// Pair i is made in the scratch planes, and taken if it is better. What it takes goes apart, as in the other search, and Ready is a clause.
 fn try_pair<E: Entries>(
     input: SearchInput<'_>,
     entries: E,

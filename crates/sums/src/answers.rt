@@ -23,6 +23,7 @@ impl From<SearchRefusal> for u8 {
     }
 }
 
+// Names the cases of its own enum, as that of calls does.
 impl From<GridRefusal> for SearchRefusal {
     ghost use Rattle.std.specs.Prelude.{◌≡◌};
     ghost use Rattle.sums.specs.GridToSearch.{of_grid};

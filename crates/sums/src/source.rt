@@ -31,6 +31,7 @@ fn over(n: usize, mbs: usize) -> bool
 }
 
 // 9, of one source plane: it is short by the rule of 3. The bounds are of a source that 8 and its strides let pass.
+// As `short_plane` of planes, which has a `requires` and so is private.
 #[tactic(auto, unfolding(crate::specs::Private::SumCode::short_of))]
 fn short(len: usize, rows: usize, stride: usize, width: usize) -> bool
     requires { (0 < rows) × (rows ≤ 16384) × (stride ≤ 65536) × (width ≤ 16384) }

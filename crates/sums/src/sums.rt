@@ -55,7 +55,7 @@ fn plane_sum(
     ensures { result ≡ fitting (start + rows_sum a.now s b.now t w h) }
 {
     let mut sum = start;
-    // n is the row of both planes, whose strides differ.
+    // Each plane has its stride: `chunks` by them would have a shorter last one, and a length to prove of each.
     for n in 0..h {
         let row = row_sum(a, n * s, b, n * t, w);
         let Some(more) = sum.checked_add(row) else {

@@ -5,13 +5,13 @@ use std::path::{Path, PathBuf};
 use std::process::Command;
 
 /// The loops over an edge, which hold their kernels, each with how many of it there are: one for each kind of normal edge, across the
-/// rows one for each length too; and the kernels as a whole, for windows that need a clamp, outside of the loops.
+/// rows one for each length too; and each normal kernel as a whole, for windows that need a clamp, outside of the loops.
 const APART: [(&str, usize); 5] = [
     ("edges::vertical::normal_rows", 2),
     ("edges::vertical::simple_rows", 1),
     ("edges::horizontal::normal_rows", 4),
     ("edges::horizontal::simple_rows", 1),
-    ("kernels::whole::whole", 1),
+    ("kernels::whole::whole", 2),
 ];
 
 /// Kernels and runs that are to lie in those loops, and the look-up of a limit, which is to lie in the step of a macroblock: of these
@@ -22,7 +22,7 @@ const INLINED: [&str; 8] = [
     "edges::position::",
     "edges::run::",
     "edges::taps::",
-    "edges::room::",
+    "edges::place::",
     "arithmetic::",
     "limit_table::",
 ];

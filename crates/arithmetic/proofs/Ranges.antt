@@ -10,7 +10,7 @@ use lib.Dec.{T, leb, ltb, leb→le, ltb→lt, lit<}
 use lib.IntN.{ℤ, pos, negsuc, neg_ℤ, sub_ℕ, ◌+ℤ◌, ◌-ℤ◌, ◌*ℤ◌, nat_abs}
 use lib.Signed.{mag, lt_z, non_neg, shr_z, mag_shr}
 use borrow.Author.Tests.{ltb-true, ltb-false, le-ltb, lt-ltb}
-use mir.Syntax.{Width, w8, w32, w64}
+use mir.Syntax.{Width, w64}
 use mir.Val.{bits, hbits, Fits, SFits, to_z, of_z}
 use mir.Facts.{to_z-of_z, to_z_pos}
 use Rattle.arithmetic.specs.Numbers.{clamp, u2s, at_most123, within255}
@@ -90,9 +90,6 @@ module _ {w : Width} {m n : ℕ} {x y : ℤ} {A B : ℕ} (p : Is w m x A) (q : I
   pub sub : Room w (A + B) → Is w (of_z w (to_z w m -ℤ to_z w n)) (x -ℤ y) (A + B)
   sub t = wrote t (λ i. p.val i -ℤ q.val i) (in-sub x y p.inr q.inr)
 
-  pub sub? : Room w (A + B) → SFits w (to_z w m -ℤ to_z w n)
-  sub? t = asks t (λ i. p.val i -ℤ q.val i) (in-sub x y p.inr q.inr)
-
 module _ (k : ℕ) {w : Width} {n : ℕ} {x : ℤ} {A : ℕ} (p : Is w n x A) (t : T (ltb 0 k)) (r : Room w (k * A)) where
   pub mul : Is w (of_z w (pos k *ℤ to_z w n)) (pos k *ℤ x) (k * A)
   mul = wrote r (λ i. pos k *ℤ p.val i) (in-mul k x t p.inr)
@@ -121,10 +118,6 @@ sample h = of_u w64 tt h
 -- a literal: `lit 128 tt`, and of a negative one `lit_neg`
 pub lit : (w : Width) (n : ℕ) → Room w (suc n) → Is w n (pos n) (suc n)
 lit w n r = of_u w r (le_refl (suc n))
-
--- a test of such a local against a number that computes
-pub tested : {w : Width} {n : ℕ} {z : ℤ} {A : ℕ} → Is w n z A → (k : ℤ) (b : Bool) → lt_z (to_z w n) k ≡ b → lt_z z k ≡ b
-tested p k b e = sym (ap (λ (v : ℤ). lt_z v k) p.val) ∙ e
 
 -- ---- the clamp
 pub clamp-low : (v : ℤ) → lt_z v (negsuc 127) ≡ true → clamp v ≡ negsuc 127
@@ -175,10 +168,6 @@ pub cast_u? : {w : Width} {n : ℕ} {z : ℤ} {A : ℕ} (w' : Width) → Is w n 
 cast_u? w' p t h = (subst (λ (v : ℤ). T (non_neg v)) (sym p.val) t, subst (λ (v : ℤ). Fits w' (nat_abs v)) (sym p.val) (record { fits = h }))
 
 -- ---- the callees' results
--- `clamp_s8` of such a local
-pub clamped : {n : ℕ} {x : ℤ} {A : ℕ} → Is w32 n x A → {r : ℤ} → mag r < 2 ^ 7 → r ≡ clamp (to_z w32 n) → Is w8 (of_z w8 r) (clamp x) 128
-clamped p h e = gave h (e ∙ ap clamp p.val)
-
 -- a call's result whose number has a range of its own
 pub got : {w : Width} {r z : ℤ} {A : ℕ} → mag r < 2 ^ hbits w → r ≡ z → mag z < A → Is w (of_z w r) z A
 got h e i = tighten (gave h e) i
@@ -196,17 +185,10 @@ module _ {w : Width} {m n k : ℕ} {x : ℤ} {K A : ℕ} (p : Is w m (pos k) K) 
   pub mul_u : Is w (of_z w (to_z w m *ℤ to_z w n)) (pos k *ℤ x) (K * A)
   mul_u = wrote r (λ i. p.val i *ℤ q.val i) (in-mul_u k x p.inr q.inr)
 
-  pub mul_u? : SFits w (to_z w m *ℤ to_z w n)
-  mul_u? = asks r (λ i. p.val i *ℤ q.val i) (in-mul_u k x p.inr q.inr)
-
 -- a shift that narrows the range
 pub in-shr-by : (m A : ℕ) (x : ℤ) → 0 < m → mag x < A * m → mag (shr_z x m) < A
 in-shr-by m A (pos n) k h = (div-lt_iff_lt-mul k).1 h
 in-shr-by m A (negsuc n) k h = (div-lt_iff_lt-mul k).1 h
-
--- the same number under an equal name, as where the arms of a branch have met
-pub moves : {w : Width} {m n : ℕ} {y z : ℤ} {A : ℕ} → Is w n z A → m ≡ n → z ≡ y → Is w m y A
-moves {w} {m} {n} {y} {z} {A} p e f = subst (λ (k : ℕ). Is w k y A) (sym e) (subst (λ (v : ℤ). Is w n v A) f p)
 
 -- the lesser of a number and 123
 pub most-below : (v : ℤ) → lt_z v (pos 123) ≡ true → at_most123 v ≡ v

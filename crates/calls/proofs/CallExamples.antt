@@ -6,7 +6,7 @@ use Rattle.std.proofs.Math.Option.{some-injective, some-ne-none, none-ne-some}
 use Rattle.std.proofs.Math.Decide.{ℕ_discrete}
 use Rattle.arithmetic.specs.Numbers.{clamp, u2s, s2u, shr}
 use Rattle.kernels.specs.Kernels as kernels
-use Rattle.kernels.specs.Segment.{subblock_filter, mb_filter, half, taps, smooth, gather, scatter, segment}
+use Rattle.kernels.specs.Segment.{half, taps, smooth, gather, scatter, segment}
 use Rattle.arithmetic.specs.Limits.{at_least_one, interior_limit, hev_threshold, mbedge_limit, sub_bedge_limit, with_interior, derive}
 use Rattle.levels.specs.Encodings.{mode_of, reference_of, inter_mode_of, bad_mode, bad_reference, bad_inter_mode}
 use Rattle.levels.specs.Levels as levels
@@ -17,7 +17,6 @@ use Rattle.planes.specs.Macroblock.{only, edge_at, edges_at, filter_edges, filte
 use Rattle.planes.specs.Reach.{Box, Near, Reach, Own}
 use Rattle.planes.specs.GridRefusals.{zero_grid, too_large, bad_strides, needed, short_planes, after_grid}
 use Rattle.calls.specs.Entries.{KeyCarried, segment_byte, key_record, no_record, entry_of, key_entry, inter_entry, length_is_not, key_lengths_wrong, inter_lengths_wrong, key_bad_entry, inter_bad_entry}
-use Rattle.std.specs.List.{list_any}
 use Rattle.calls.specs.Pass.{Pass, Call, key_pass, inter_pass, is_b, inside_of, plan_with, plan_at, key_plan, inter_plan, refusal, step, count, next, answer, planes_after}
 use Rattle.calls.specs.Calls.{LastLeft, AfterRefused, Carries, after_accepted, Calls, counts, allowances, done, StandIn, FurtherCalls}
 use Rattle.calls.specs.FinalRows.{rows_final, final_rows}

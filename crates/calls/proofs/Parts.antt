@@ -1,19 +1,17 @@
 -- How many positions are smoothed: what each call's part is, and that the parts of a list add up.
 use mathlib.Core.Path.{◌≡◌, refl, sym, ap, ◌∙◌}
-use mathlib.Core.Logic.{◌≢◌}
-use mathlib.Core.Bool.{Bool, true, false, cond}
-use mathlib.Core.List.{List, [], ◌∷◌}
-use Prim.Native.Nat.{ℕ, zero, suc, ◌+◌, ◌-◌, ◌*◌, ◌≤◌, ◌<◌, min}
-use native.Mathlib.Nat.{zero-add, sub-zero, zero-min, mul-le-mul_left}
+use mathlib.Core.Bool.{Bool, true, cond}
+use mathlib.Core.List.{List, ◌∷◌}
+use Prim.Native.Nat.{ℕ, zero, suc, ◌+◌, ◌-◌, ◌*◌, ◌≤◌, min}
+use native.Mathlib.Nat.{zero-add, sub-zero, zero-min}
 use native.Mathlib.Omega.{arith}
 use lib.Dec.{eqb, eqb-suc-zero}
 use borrow.Author.Tests.{ne_eqb}
 use Rattle.arithmetic.specs.Outcome.{Outcome, gives, refuses}
-use Rattle.planes.specs.Steps.{steps, tally}
-use Rattle.planes.specs.Planes.{Planes, Grid, macroblocks}
-use Rattle.planes.specs.Macroblock.{Plan, leave}
+use Rattle.planes.specs.Steps.{tally}
+use Rattle.planes.specs.Planes.{Planes}
+use Rattle.planes.specs.Macroblock.{leave}
 use Rattle.planes.specs.GridRefusals.{zero_grid}
-use Rattle.planes.specs.Smoothed.{macroblock_smoothed}
 use Rattle.calls.specs.Entries.{Entry}
 use Rattle.calls.specs.Pass.{Pass, Call, Progress, key_pass, inter_pass, refusal, step, count, answer}
 use Rattle.calls.specs.Calls.{Picture, LastLeft, GoesOn, Carries, after_accepted, AfterRefused, Calls, allowances, done}

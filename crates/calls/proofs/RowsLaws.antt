@@ -1,12 +1,12 @@
--- The leading rows that are final: what the definition answers, case by case; that no macroblock left can reach them; and that they are the most.
+-- The leading rows that are final: that no macroblock left can reach them; and that they are the most.
 use mathlib.Core.Path.{◌≡◌, refl, sym, ap, ◌∙◌, subst}
 use mathlib.Core.Logic.{inl, inr, ◌≢◌}
 use mathlib.Core.Bool.{Bool, true, false, cond}
-use Prim.Native.Nat.{ℕ, ◌+◌, ◌*◌, ◌/◌, ◌≤◌, ◌<◌}
+use Prim.Native.Nat.{ℕ, ◌+◌, ◌*◌, ◌≤◌, ◌<◌}
 use native.Mathlib.Nat.{mod-lt, mul-le-mul_left, le-div_iff_mul-le, div-mul-le_self, le_trans, zero-div}
 use native.Mathlib.Omega.{arith}
 use lib.Dec.{eqb, ltb}
-use borrow.Author.Tests.{eq-eqb, ne_eqb, lt-ltb, le-ltb, eqb-true, eqb-false, ltb-false}
+use borrow.Author.Tests.{ne_eqb, eqb-true, eqb-false, ltb-false}
 use Rattle.arithmetic.specs.Outcome.{Outcome, gives, refuses}
 use Rattle.planes.specs.Steps.{Clear}
 use Rattle.planes.specs.Planes.{Plane, luma, chroma_u, chroma_v, Grid, side, stride, Sample, row_of, column_of, macroblocks, grid_row, grid_column, StridesHold}
@@ -17,45 +17,6 @@ use Rattle.planes.proofs.Fits.{factor-positive, square-within, row-column, side-
 use Rattle.planes.proofs.Local.{reach-in-grid}
 use Rattle.planes.proofs.Divided.{reach-divides, reach-divided}
 use Rattle.calls.proofs.CallFacts.{zero-macroblocks, not-zero-macroblocks}
-
--- ---- what the definition answers
-
-module _ (g : Grid) (start : ℕ) where
-  pub no-columns : g.columns ≡ 0 → final_rows g start ≡ gives (record { luma = 0; chroma = 0 })
-  unfolding final_rows zero_grid
-  no-columns c = rw (eq-eqb g.columns 0 c)
-
-  module _ (c : g.columns ≢ 0) where
-    pub no_rows : g.rows ≡ 0 → final_rows g start ≡ gives (record { luma = 0; chroma = 0 })
-    unfolding final_rows zero_grid
-    no_rows r = rw (ne_eqb g.columns 0 c, eq-eqb g.rows 0 r)
-
-    module _ (r : g.rows ≢ 0) where
-      pub wide : 1024 < g.columns → final_rows g start ≡ refuses 1
-      unfolding final_rows zero_grid too_large
-      wide l = rw (ne_eqb g.columns 0 c, ne_eqb g.rows 0 r, lt-ltb 1024 g.columns l)
-
-      module _ (c' : g.columns ≤ 1024) where
-        pub high : 1024 < g.rows → final_rows g start ≡ refuses 1
-        unfolding final_rows zero_grid too_large
-        high l = rw (ne_eqb g.columns 0 c, ne_eqb g.rows 0 r, le-ltb 1024 g.columns c', lt-ltb 1024 g.rows l)
-
-        module _ (r' : g.rows ≤ 1024) where
-          pub beyond : macroblocks g < start → final_rows g start ≡ refuses 7
-          unfolding final_rows zero_grid too_large
-          beyond l = rw (ne_eqb g.columns 0 c, ne_eqb g.rows 0 r, le-ltb 1024 g.columns c', le-ltb 1024 g.rows r', lt-ltb (macroblocks g) start l)
-
-          given : start ≤ macroblocks g → final_rows g start ≡ gives (record { luma = rows_final g luma start; chroma = rows_final g chroma_u start })
-          unfolding final_rows zero_grid too_large
-          given l = rw (ne_eqb g.columns 0 c, ne_eqb g.rows 0 r, le-ltb 1024 g.columns c', le-ltb 1024 g.rows r', le-ltb (macroblocks g) start l)
-
-          pub all-rows : start ≡ macroblocks g → final_rows g start ≡ gives (record { luma = 16 * g.rows; chroma = 8 * g.rows })
-          unfolding rows_final
-          all-rows e = given (omega arith) ∙ rw (eq-eqb start (macroblocks g) e)
-
-          pub some-rows : start ≤ macroblocks g → start ≢ macroblocks g → final_rows g start ≡ gives (record { luma = rows_above (16 * (start / g.columns)); chroma = rows_above (8 * (start / g.columns)) })
-          unfolding rows_final
-          some-rows l ne = given l ∙ rw (ne_eqb start (macroblocks g) ne)
 
 -- ---- that they are final, and the most
 

@@ -13,7 +13,7 @@ pub enum PassRefusal {
 }
 
 // The count of macroblocks done, the next start, and how many positions were smoothed.
-#[derive(Clone, Copy, Debug, PartialEq, Eq)]
+#[derive(Clone, Copy, Debug, Default, PartialEq, Eq)]
 pub struct Done {
     pub count: usize,
     pub next: usize,

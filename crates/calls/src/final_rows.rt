@@ -7,7 +7,7 @@ use crate::answers::PassRefusal;
 use planes::layout::PlaneLayout;
 
 // Leading rows that are final, in luma and in each chroma plane.
-#[derive(Clone, Copy, Debug, PartialEq, Eq)]
+#[derive(Clone, Copy, Debug, Default, PartialEq, Eq)]
 pub struct FinalRows {
     pub luma: usize,
     pub chroma: usize,
@@ -23,7 +23,7 @@ pub fn final_rows(layout: PlaneLayout, start: usize) -> Result<FinalRows, PassRe
 {
     let rows = layout.mb_rows;
     if layout.is_zero() {
-        return Ok(FinalRows { luma: 0, chroma: 0 });
+        return Ok(FinalRows::default());
     }
     if layout.is_too_large() {
         return Err(PassRefusal::TooLarge);

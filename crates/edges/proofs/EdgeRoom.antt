@@ -3,33 +3,16 @@
 use mathlib.Core.Path.{◌≡◌, refl, sym, ap, ◌∙◌}
 use mathlib.Core.Bool.{Bool, true, false, cond, ◌&&◌}
 use mathlib.Core.List.{List}
-use Prim.Native.Nat.{ℕ, ◌+◌, ◌-◌, ◌*◌, ◌/◌, ◌≤◌, ◌<◌}
-use native.Mathlib.Nat.{mul_comm, mul-le-mul_left, div-mul-le_self, div-lt_iff_lt-mul}
-use native.Mathlib.Omega.{arith}
+use Prim.Native.Nat.{ℕ, ◌+◌, ◌-◌, ◌*◌, ◌≤◌}
 use lib.Dec.{leb}
 use lib.ListN as ListN
-use borrow.Author.Tests.{leb-true, leb-false, le-leb, lt-leb}
+use borrow.Author.Tests.{leb-true, le-leb}
 use Rattle.kernels.specs.Segment.{Kernel, simple_segment, half, taps}
 use Rattle.kernels.proofs.Windows.{taken, left}
 use Rattle.planes.specs.Edges.{Direction, vertical, horizontal}
 use Rattle.edges.specs.EdgeFrom.{edge_from, edge_fits, edge_within, smoothed_from, smoothed_within}
 
 -- ---- the judgement, without the sum
-
--- no stride above the quotient leaves `last` rows among n samples, and any other does
-pub rows-past : (n last s : ℕ) → 0 < last → n / last < s → n < last * s
-rows-past n last s h q = omega (arith, (div-lt_iff_lt-mul h).0 q, mul_comm s last)
-
-pub rows-within : (n last s : ℕ) → s ≤ n / last → last * s ≤ n
-rows-within n last s q = omega (arith, mul-le-mul_left last q, div-mul-le_self n last, mul_comm (n / last) last)
-
--- the test on the quotient is the test on the sum
-pub on-rows : (n last s across base : ℕ) → 0 < last → across ≤ n → base ≤ n - across → leb s ((n - across - base) / last) ≡ leb (base + last * s + across) n
-on-rows n last s across base h a b = by (leb s ((n - across - base) / last)) refl
-  where
-    by : (t : Bool) → leb s ((n - across - base) / last) ≡ t → t ≡ leb (base + last * s + across) n
-    by true e = sym (le-leb (base + last * s + across) n (omega (arith, rows-within (n - across - base) last s (leb-true s ((n - across - base) / last) e))))
-    by false e = sym (lt-leb (base + last * s + across) n (omega (arith, rows-past (n - across - base) last s h (leb-false s ((n - across - base) / last) e))))
 
 -- both tests that a function answered passed
 pub both-pass : (a b c d : ℕ) {f : Bool} → f ≡ (leb a b && leb c d) → f ≡ true → (c ≤ d) × (a ≤ b)

@@ -9,4 +9,5 @@ pub mod RunTurns
 pub mod RowRuns
 pub mod RowCounts
 pub mod VerticalRows
+pub mod MadeRows
 pub mod EdgeRoom

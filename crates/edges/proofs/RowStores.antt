@@ -70,10 +70,6 @@ module _ (n s at first : ℕ) (t : List (List ℤ)) (l : List ℕ) where
       f ∙ ap (store_row_of n s at (first + i) t) e
       ∙ sym (ap (λ (m : ℕ). steps (λ j. store_row_of n s at (first + j) t) 0 m l) (add-one i) ∙ steps-suc (λ j. store_row_of n s at (first + j) t) i l)
 
-  pub length-rows : (count : ℕ) → length (store_rows n s at first count t l) ≡ length l
-  unfolding store_rows
-  length-rows count = steps-inv (λ j. store_row_of n s at (first + j) t) (λ l'. length l' ≡ length l) (λ j l' e. length-row n (at + (first + j) * s) (get_or t (first + j) []) l' ∙ e) 0 count l refl
-
 -- where the rows 1 and 6 are what is there already, the four between them are enough
 pub four-enough : (n s at : ℕ) (t : List (List ℤ)) (l : List ℕ) → n ≤ s → store_row_of n s at 1 t l ≡ l → store_row_of n s at 6 t l ≡ l → store_rows n s at 1 6 t l ≡ store_rows n s at 2 4 t l
 unfolding store_rows steps

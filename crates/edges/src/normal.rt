@@ -56,8 +56,8 @@ pub(crate) fn limits_of<E: NormalEdge>(limits: LoopFilterParams) -> EdgeLimits
     }
 }
 
-// The two kinds test alike; each then moves the taps by its own rule. The window's kernel is named in each, since a trait's constant can't
-// stand as a const argument.
+// The two kinds test alike; each then moves the taps by its own rule. Not one impl with a const parameter, in
+// which each member would be an `if`.
 #[derive(Clone, Copy)]
 pub struct MacroblockEdge;
 

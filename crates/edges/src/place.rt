@@ -10,9 +10,8 @@ pub struct EdgePlace {
 }
 
 impl EdgePlace {
-    // By the length alone: no sample is read.
     // `across` samples from `at` on, and in each row down to the one `last` rows below, lie among `len` samples. No sum or product can wrap.
-    // A caller that names `last` as a number has a division by that number, which the compiler turns into a product.
+    // It takes the length alone, since no sample is read. A caller that names `last` as a number has a division by that number, which the compiler turns into a product.
     pub(crate) fn has_room(self, len: usize, last: usize, across: usize) -> bool
         requires { 0 < last }
         ensures { result ≡ leb (self.at + last * self.stride + across) len }

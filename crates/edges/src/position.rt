@@ -1,4 +1,5 @@
-// RFC 6386, sections 15.2 and 15.3: the kernels on the taps of one position, by value. Taps lie in -128..127, and no step branches on them.
+// RFC 6386, sections 15.2 and 15.3: the kernels on the taps of one position, by value. Apart from those of the kernels' own crate, which
+// branch and work on 64 bits: on 16 bits a single window takes longer. Taps lie in -128..127, and no step branches on them.
 ghost use Rattle.std.specs.Prelude.{◌≡◌, ◌<◌, ◌≤◌, pos, ◌+ℤ◌, ◌-ℤ◌};
 ghost use Rattle.std.specs.Int.Signed.{mag};
 ghost use Rattle.arithmetic.specs.Numbers as num;
@@ -48,8 +49,8 @@ pub struct EdgeTaps {
     pub q0: i16,
 }
 
-// |a - b|. It is signed, as comparisons of vectors of 16 bits are. The bounds are clauses, here and below: a type for taps would be opened
-// for each sum and made anew of it.
+// |a - b|. It is signed, as comparisons of vectors of 16 bits are. The bounds are clauses, here and below: as a ghost field
+// of the taps' types, each definition that speaks of a position would bring a proof of them.
 fn distance(a: i16, b: i16) -> i16
     requires a_bound { mag a < 128 }
     requires b_bound { mag b < 128 }

@@ -1,4 +1,5 @@
-// The kernels on rows of taps, position after position, by value (RFC 6386, section 15.1).
+// The kernels on rows of taps, position after position, by value (RFC 6386, section 15.1). By index: a position is read at one place of all
+// rows, and stored so.
 ghost use Rattle.std.specs.Prelude.{◌≡◌, ◌<◌};
 ghost use Rattle.kernels.specs.Segment.{simple_segment};
 ghost use Rattle.edges.specs.Private.Runs.{SignedRows, SignedSix, eight_at, four_at, store_inner, run_of_eight, run_of_four, simple_passes, normal_passes, marks_of};
@@ -44,7 +45,7 @@ fn set_inner<const N: usize>(rows: &mut [[i16; N]; 8], n: usize, s: InnerTaps)
     rows[6][n] = s.q2;
 }
 
-// normal_filter_run, and how many positions pass. The compiler sees that the kernel at a position makes the same test.
+// A normal kernel at every position, and how many pass. The compiler sees that the kernel at a position makes the same test.
 pub(crate) fn normal_run<E: NormalEdge, const N: usize>(
     taps: [[i16; N]; 8],
     edge: EdgeLimits,
@@ -93,7 +94,6 @@ where
 {
     let mut rows = taps;
     let mut marks: u16 = 0;
-    // n is a position of all rows.
     for n in 0..N {
         let position = four_at(&taps, n);
         let s = simple_position(edge_limit, position);

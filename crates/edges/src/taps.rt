@@ -4,7 +4,9 @@ ghost use Rattle.std.specs.Int.Signed.{mag};
 ghost use Rattle.arithmetic.specs.Numbers.{u2s, s2u};
 ghost use Rattle.edges.specs.Private.Runs.{row_at, store_row, SignedRow};
 
-// A sample as a tap.
+use std::array;
+
+// A sample as a tap: on 16 bits, as the taps are, so that a distance of two needs no other type.
 fn u2s16(v: u8) -> i16
     ensures { result ≡ u2s v }
 {
@@ -19,20 +21,16 @@ fn s2u16(v: i16) -> u8
     (v + 128) as u8
 }
 
-// N samples from `at` on. One index walks the plane and the row.
-// `at` goes beside the plane, as an EdgePlace does.
+// N samples from `at` on. `at` goes beside the plane: of a part of it a caller would name the end too, which N says.
 pub(crate) fn gather<const N: usize>(plane: &[u8], at: usize) -> [i16; N]
     requires { at + N ≤ length plane.now }
     ensures { result ≡ row_at N at plane.now }
 {
-    let mut row = [0i16; N];
-    for n in 0..N {
-        row[n] = u2s16(plane[at + n]);
-    }
-    row
+    array::from_fn(|n| u2s16(plane[at + n]))
 }
 
-// The same, stored. By index: of what is written through `iter_mut` a proof knows only the length.
+// N samples stored from `at` on. By index: `copy_from_slice` would want an array of
+// the samples first, and of a part that is lent to `iter_mut` a proof knows only the length.
 pub(crate) fn scatter<const N: usize>(plane: &mut [u8], at: usize, row: [i16; N])
     requires at_in_bounds { at + N ≤ length plane.old }
     requires signed_row { SignedRow N row }

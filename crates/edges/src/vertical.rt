@@ -67,7 +67,7 @@ fn simple_rows(plane: &mut [u8], place: EdgePlace, rows: usize, edge_limit: u8) 
     ensures value { result ≡ smoothed_from vertical (simple_segment edge_limit) place.stride place.at rows plane.old }
 {
     let mut smoothed: usize = 0;
-    // Nor here.
+    // By the stride again, as above.
     for n in 0..rows {
         let a = place.at + n * place.stride;
         let e = a + 4;
@@ -99,7 +99,7 @@ where
     }
 }
 
-// Any edge of N rows of the simple filter; the same holds of it.
+// Any edge of N rows of the simple filter; across the rows it asks for four rows of room.
 pub fn simple_edge<const N: usize>(plane: &mut [u8], place: EdgePlace, edge_limit: u8) -> usize
 where
     Samples: EdgeLength<N>,

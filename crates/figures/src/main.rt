@@ -4,11 +4,11 @@
 ghost use Rattle.std.specs.Prelude.{◌<◌};
 
 use calls::answers::{Done, PassRefusal};
-use frame::entries::{InterLists, KeyLists};
 use frame::pass::filter_frame;
 use levels::config::FrameFilterConfig;
 use planes::layout::PlaneLayout;
-use planes::picture::PictureMut;
+use recording::kinds::Frames;
+use recording::picture::{Lists, Planes};
 use std::{array, fmt, io};
 
 #[derive(Clone, Copy, PartialEq, Eq)]
@@ -17,30 +17,12 @@ enum Filter {
     Simple,
 }
 
-#[derive(Clone, Copy)]
-enum Frames {
-    Key,
-    Inter,
-}
-
 fn settings(filter: Filter, level: u8) -> FrameFilterConfig {
     FrameFilterConfig {
         simple: filter == Filter::Simple,
         key_frame: true,
         loop_filter_level: level,
-        sharpness_level: 0,
-        segmentation_enabled: false,
-        segment_abs: false,
-        segment_lf_level: [0; 4],
-        delta_enabled: false,
-        ref_delta_current: 0,
-        bpred_mode_delta: 0,
-        ref_delta_last: 0,
-        ref_delta_golden: 0,
-        ref_delta_altref: 0,
-        zero_mv_mode_delta: 0,
-        other_mv_mode_delta: 0,
-        split_mv_mode_delta: 0,
+        ..FrameFilterConfig::default()
     }
 }
 
@@ -54,13 +36,19 @@ fn layout(mb_cols: usize) -> PlaneLayout {
     }
 }
 
-// The planes of a grid of one or two macroblocks.
-#[derive(Clone, Copy, PartialEq, Eq)]
-struct Planes {
-    y: [u8; 512],
-    u: [u8; 128],
-    v: [u8; 128],
+// The lists of N macroblocks of mode Dc and flag 0.
+fn zeros<const N: usize>() -> Lists<N> {
+    Lists {
+        modes: [0; N],
+        segments: [0; N],
+        flags: [0; N],
+        references: [0; N],
+        inter_modes: [0; N],
+    }
 }
+
+// The planes of a grid of one or two macroblocks.
+type Samples = Planes<512, 128, 128>;
 
 // Rows that step between 100 and 108 every `half` samples.
 fn steps<const N: usize>(half: usize) -> [u8; N]
@@ -69,52 +57,36 @@ fn steps<const N: usize>(half: usize) -> [u8; N]
     array::from_fn(|i| if i / half % 2 == 0 { 100 } else { 108 })
 }
 
-impl Planes {
-    fn stepped(luma_half: usize, chroma_half: usize) -> Planes
-        requires luma { 0 < luma_half }
-        requires chroma { 0 < chroma_half }
-    {
-        Planes {
-            y: steps(luma_half),
-            u: steps(chroma_half),
-            v: steps(chroma_half),
-        }
-    }
-
-    fn lend(&mut self) -> PictureMut<'_> {
-        let Planes { y, u, v } = self;
-        PictureMut { y, u, v }
+fn stepped(luma_half: usize, chroma_half: usize) -> Samples
+    requires luma { 0 < luma_half }
+    requires chroma { 0 < chroma_half }
+{
+    Planes {
+        y: steps(luma_half),
+        u: steps(chroma_half),
+        v: steps(chroma_half),
     }
 }
 
-// One macroblock of mode Dc and flag 0, through one of the passes.
+// One macroblock, through one of the passes.
 fn filter_one(
-    planes: &mut Planes,
+    planes: &mut Samples,
     filter: Filter,
     frames: Frames,
     level: u8,
 ) -> Result<Done, PassRefusal> {
-    let zero = [0u8];
-    let key = KeyLists {
-        modes: &zero,
-        segments: &zero,
-        flags: &zero,
-    };
-    let inter = InterLists {
-        key,
-        references: &zero,
-        inter_modes: &zero,
-    };
+    let lists: Lists<1> = zeros();
+    let mut picture = planes.lend_mut();
     let config = settings(filter, level);
     match frames {
-        Frames::Key => filter_frame(&mut planes.lend(), layout(1), key, config, 0, 1),
-        Frames::Inter => filter_frame(&mut planes.lend(), layout(1), inter, config, 0, 1),
+        Frames::Key => filter_frame(&mut picture, layout(1), lists.key(), config, 0, 1),
+        Frames::Inter => filter_frame(&mut picture, layout(1), lists.inter(), config, 0, 1),
     }
 }
 
 // M: a macroblock is done, it keeps every sample, and nothing is smoothed.
 fn one_macroblock_stays(filter: Filter, frames: Frames, level: u8) -> bool {
-    let before = Planes::stepped(4, 4);
+    let before = stepped(4, 4);
     let mut planes = before;
     let done = Done {
         count: 1,
@@ -194,28 +166,25 @@ impl fmt::Display for Answer {
     }
 }
 
-// A call on a grid of two macroblocks of mode Dc and flag 0.
-fn filter_two(planes: &mut Planes, start: usize, allowance: usize) -> Answer {
-    let zero = [0u8; 2];
-    let entries = KeyLists {
-        modes: &zero,
-        segments: &zero,
-        flags: &zero,
-    };
+// A call on a grid of two macroblocks.
+fn filter_two(planes: &mut Samples, start: usize, allowance: usize) -> Answer {
+    let lists: Lists<2> = zeros();
+    let mut picture = planes.lend_mut();
     let config = settings(Filter::Normal, 63);
-    Answer(filter_frame(
-        &mut planes.lend(),
+    let answer = filter_frame(
+        &mut picture,
         layout(2),
-        entries,
+        lists.key(),
         config,
         start,
         allowance,
-    ))
+    );
+    Answer(answer)
 }
 
 // N: halted after one macroblock, then resumed. O: starts 2 and 3.
 fn two_macroblocks(rt: &impl Print) -> io::Result<()> {
-    let mut planes = Planes::stepped(16, 8);
+    let mut planes = stepped(16, 8);
     println!(rt; "N first call: {}", filter_two(&mut planes, 0, 1))?;
     let halted = planes;
     println!(rt; "N second call: {}", filter_two(&mut planes, 1, 1))?;

@@ -21,7 +21,6 @@ use Rattle.frame.specs.Private.PlaneEdges.{square_at, along, left_from, top_from
 use Rattle.planes.specs.Macroblock.{Plan, filter, lead}
 use Rattle.frame.proofs.Bases.{edge_base, work-from}
 use Rattle.planes.proofs.StepParts.{edge_of}
-use Rattle.planes.proofs.SmoothedLaws.{macroblock-most}
 use Rattle.planes.proofs.WorkedParts.{work_macroblock, macroblock-samples, macroblock-total, work_at, four-parts, macroblock-at, borders-none, borders-at, insides-none, insides-at}
 
 -- (a - h) rows above, counted in samples
@@ -236,6 +235,3 @@ module _ (layout : PlaneLayout) where
   -- under a plan that is the same
   pub stepped-as : (m : ℕ) (p p' : Planes) (r : ℕ) {plan plan' : Plan} → plan ≡ plan' → Stepped layout plan m p p' r → Stepped layout plan' m p p' r
   stepped-as m p p' r e s = subst (λ (x : Plan). Stepped layout x m p p' r) e s
-
-  pub stepped-most : (plan : Plan) (m : ℕ) (p p' : Planes) (r : ℕ) → Stepped layout plan m p p' r → r ≤ 192
-  stepped-most plan m p p' r s = omega (arith, s.smoothed, macroblock-most (grid_of layout) (λ _. plan) m p)

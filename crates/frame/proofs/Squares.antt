@@ -8,10 +8,6 @@ use Rattle.planes.specs.Planes.{Plane, Planes, Grid, side, stride, plane, macrob
 use Rattle.frame.specs.Private.PlaneEdges.{Inside, square_at}
 use Rattle.planes.proofs.Fits.{side-least, factor-positive, square-within}
 
--- a product is at least its factor
-pub factor-le : (n s : ℕ) → 0 < s → n ≤ n * s
-factor-le n s h = omega (arith, mul-le-mul_left n h)
-
 pub row_in : (g : Grid) (m : ℕ) → m < macroblocks g → grid_row g m < g.rows
 row_in g m h = (div-lt_iff_lt-mul (factor-positive g.columns g.rows m h)).1 (omega (arith, mul_comm g.columns g.rows))
 

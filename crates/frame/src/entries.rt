@@ -1,11 +1,11 @@
 // The entries of a picture's macroblocks as callers lend them: byte lists, one entry a macroblock, or a list of records (document 01, Option lists).
-ghost use Rattle.std.specs.Prelude.{◌≡◌};
+ghost use Rattle.std.specs.Prelude.{◌≡◌, ◌||◌};
 ghost use Rattle.calls.specs.Entries.{segment_byte, inter_record};
-ghost use Rattle.calls.specs.Pass.{inside_of};
+ghost use Rattle.calls.specs.Pass.{inside_of, is_b};
 
-use crate::decode::{inner_edges, inter_mode_of, mode_of, reference_of};
 use calls::records::MacroblockModes;
 use judge::entries::{Entries, MacroblockPlan, any_above, bad_entries, length_is_not};
+use levels::cases::{inter_mode_of, mode_of, reference_of};
 use levels::config::FrameFilterConfig;
 use levels::modes::{IntraYMode, Prediction};
 
@@ -31,13 +31,14 @@ pub struct KeyRecords<'a> {
     pub list: &'a [MacroblockModes],
 }
 
-// Records for the inter pass. Not one type with the key pass: which pass it is goes by the type.
+// Records for the inter pass, which reads all of a record. Not one type with the key pass: which pass it is goes by the type.
 #[derive(Clone, Copy)]
 pub struct InterRecords<'a> {
-    pub list: &'a [MacroblockModes],
+    pub records: KeyRecords<'a>,
 }
 
-// Each of the four plans reads its own entries: three byte lists, five, or one list of records, with a reference or without.
+// Each of the four plans reads its own entries: three byte lists, five, or one list of records, with a reference or without. One plan of
+// all would carry a reference and an inter mode through the key pass, which has none.
 impl<'a> Entries for KeyLists<'a> {
     ghost use Rattle.std.specs.Prelude.{◌<◌, length};
     ghost use Rattle.calls.specs.Entries.{KeyCarried};
@@ -63,6 +64,7 @@ impl<'a> Entries for KeyLists<'a> {
         any_above(self.modes, 4)
     }
 
+    #[tactic(auto, unfolding(calls::specs::Pass::key_plan, calls::specs::Pass::inside_of, calls::specs::Entries::key_entry, calls::specs::Entries::entry_of), using(calls::proofs::EntryLaws::key_level_min))]
     fn plan(self, config: FrameFilterConfig, m: usize) -> MacroblockPlan {
         let mode = mode_of(self.modes[m]);
         let level = config.key_mb_level(self.segments[m], mode);
@@ -99,6 +101,7 @@ impl<'a> Entries for InterLists<'a> {
         bad_entries(self.key.modes, self.references, self.inter_modes)
     }
 
+    #[tactic(auto, unfolding(calls::specs::Pass::inter_plan, calls::specs::Pass::inside_of, calls::specs::Entries::inter_entry, calls::specs::Entries::entry_of), using(calls::proofs::EntryLaws::inter_level_min))]
     fn plan(self, config: FrameFilterConfig, m: usize) -> MacroblockPlan {
         let mode = mode_of(self.key.modes[m]);
         let reference = reference_of(self.references[m]);
@@ -137,6 +140,7 @@ impl<'a> Entries for KeyRecords<'a> {
         false
     }
 
+    #[tactic(auto, unfolding(calls::specs::Pass::key_plan, calls::specs::Pass::inside_of, calls::specs::Entries::key_record, calls::specs::Entries::inter_record, calls::specs::Entries::no_record), using(calls::proofs::EntryLaws::key_level_min))]
     fn plan(self, config: FrameFilterConfig, m: usize) -> MacroblockPlan {
         let mb = self.list[m];
         MacroblockPlan {
@@ -156,21 +160,21 @@ impl<'a> Entries for InterRecords<'a> {
 
     ghost pass = { inter_pass };
 
-    ghost carried = { λ l. InterCarried.records l.list.now };
+    ghost carried = { λ l. InterCarried.records l.records.list.now };
 
-    ghost has = { λ l m. m < length l.list.now };
+    ghost has = { λ l m. m < length l.records.list.now };
 
     fn wrong_length(self, n: usize) -> bool {
-        length_is_not(self.list, n)
+        self.records.wrong_length(n)
     }
 
-    // No record stands for a byte that 6 refuses.
     fn bad_entry(self) -> bool {
-        false
+        self.records.bad_entry()
     }
 
+    #[tactic(auto, unfolding(calls::specs::Pass::inter_plan, calls::specs::Pass::inside_of, calls::specs::Entries::inter_record, calls::specs::Entries::no_record), using(calls::proofs::EntryLaws::inter_level_min))]
     fn plan(self, config: FrameFilterConfig, m: usize) -> MacroblockPlan {
-        let mb = self.list[m];
+        let mb = self.records.list[m];
         let prediction = Prediction {
             mode: mb.y_mode,
             reference: mb.ref_frame,
@@ -182,7 +186,15 @@ impl<'a> Entries for InterRecords<'a> {
         }
     }
 
-    ghost has_each = { λ l. record_has l.list.now };
+    ghost has_each = { λ l. record_has l.records.list.now };
+}
+
+// The mode is B, or there are coefficients.
+#[tactic(auto, unfolding(calls::specs::Pass::is_b))]
+fn inner_edges(mode: IntraYMode, coded: bool) -> bool
+    ensures { result ≡ (is_b mode || coded) }
+{
+    (mode == IntraYMode::B) | coded
 }
 
 // None counts as 0.

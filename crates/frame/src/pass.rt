@@ -17,7 +17,8 @@ use levels::config::FrameFilterConfig;
 use planes::layout::PlaneLayout;
 use planes::picture::PictureMut;
 
-// Planes, layout, entries and settings are lent apart, as document 01 says.
+// The call's parameters are document 01's, one by one, here and in frame_calls: they are handed on once, and no struct of them has another use.
+
 // Macroblocks `from` to `to` - 1. The answer: how many positions were smoothed.
 fn filter_range<E: Entries>(
     picture: &mut PictureMut<'_>,

@@ -78,7 +78,8 @@ where
     }
 }
 
-// Its edges are rows apart and not samples, as in the definition: a function of both directions would ask which at each step.
+// Its edges are rows apart and not samples, as in the definition: one function with the direction as a const parameter
+// would have an `if` around each of the two lines that differ.
 fn inner_horizontal<E: Edge<N>, const N: usize>(
     edge: E,
     plane: &mut [u8],

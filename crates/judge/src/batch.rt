@@ -8,8 +8,9 @@ use crate::entries::Entries;
 use calls::answers::{Done, PassRefusal};
 use planes::layout::{PlaneLayout, PlaneLengths};
 
-// The macroblocks to do: `from` up to `to`, none where these are equal. `done` is the answer when they are done, before what they smooth is counted.
-#[derive(Clone, Copy, Debug, PartialEq, Eq)]
+// The macroblocks to do: `from` up to `to`, none where these are equal. `done` is the answer when they are done, before what they smooth
+// is counted; a walk takes the range beside it.
+#[derive(Clone, Copy, Debug, Default, PartialEq, Eq)]
 pub struct Batch {
     pub done: Done,
     pub from: usize,
@@ -29,16 +30,7 @@ pub fn judge_call<E: Entries>(
         (E.pass.wrong_length (E.carried entries) (macroblocks (grid_of layout))) (E.pass.bad_entry (E.carried entries)) start allowance) }
 {
     if layout.is_zero() {
-        let done = Done {
-            count: 0,
-            next: 0,
-            smoothed: 0,
-        };
-        return Ok(Batch {
-            done,
-            from: 0,
-            to: 0,
-        });
+        return Ok(Batch::default());
     }
     layout.judge(lengths)?;
     let n = layout.mb_cols * layout.mb_rows;

@@ -11,7 +11,7 @@ use levels::config::FrameFilterConfig;
 #[derive(Clone, Copy, Debug, PartialEq, Eq)]
 pub struct MacroblockPlan {
     pub level: u8,
-    // Stands at any level, so it is no Option.
+    // Has a value at level 0 too, where nothing reads it: an Option in its place would be opened where the level is tested already.
     pub inside: bool,
 }
 

@@ -1,6 +1,6 @@
 -- Samples as stored in place of signed ones: the bound 0..255, the bound 123, and the parts of w that need no bound.
 -- Assumes nothing.
-use Rattle.std.proofs.Common.{◌≡◌, ℕ, zero, suc, ◌+◌, ◌-◌, ◌*◌, ◌<◌, Bool, true, false, cond, ◌&&◌, T, eqb, ltb, leb, ℤ, pos, negsuc, ◌+ℤ◌, ◌-ℤ◌, ◌*ℤ◌, neg_ℤ, nat_abs, sym, refl, ap, ◌∙◌, subst, lt_of_lt_of_le, not-suc-le-zero, arith, lit<, eqb→eq, leb→le, w8, Fits, to_z, ltb-false, ltb-true, le-ltb, lt-ltb, eqb-true, le-leb}
+use Rattle.std.proofs.Common.{◌≡◌, ℕ, zero, suc, ◌+◌, ◌-◌, ◌*◌, ◌<◌, Bool, true, false, cond, ◌&&◌, T, eqb, ltb, leb, ℤ, pos, negsuc, ◌+ℤ◌, ◌-ℤ◌, ◌*ℤ◌, neg_ℤ, nat_abs, sym, refl, ap, ◌∙◌, subst, lt_of_lt_of_le, not-suc-le-zero, arith, lit<, eqb→eq, leb→le, to_z, ltb-false, ltb-true, le-ltb, lt-ltb, eqb-true, le-leb}
 use Rattle.std.proofs.lemmas.Grind.{common_steps}
 use mathlib.Core.Bool.{false≢true}
 use lib.IntN.{sub_ℕ, +ℤ_assoc, +ℤ_comm, -ℤ-+ℤ_cancel}
@@ -61,9 +61,6 @@ module _ {w : Width} {n : ℕ} {z : ℤ} {A : ℕ} (p : R.Is w n z A) where
   pub told : {f : Bool} → f ≡ in_byte (to_z w n) → f ≡ true → Plain z
   told e t = in-byte z (sym (e ∙ ap in_byte p.val) ∙ t)
 
-  pub byte? : Plain z → T (non_neg (to_z w n)) × Fits w8 (nat_abs (to_z w n))
-  byte? h = R.cast_u? w8 p h.sign h.size
-
   pub byte : Plain z → nat_abs (to_z w n) ≡ cut z
   byte h = ap nat_abs p.val ∙ h.same
 
@@ -75,9 +72,6 @@ join {f = false} p q t = absurd (false≢true t)
 -- what a list is after a store that answers whether it was made
 pub was-stored : {X : Type 0} {m : X} (r : Bool) (x l : X) → m ≡ cond r x l → r ≡ true → m ≡ x
 was-stored r x l e t = e ∙ ap (λ (u : Bool). cond u x l) t
-
-pub was-kept : {X : Type 0} {m : X} (r : Bool) (x l : X) → m ≡ cond r x l → r ≡ false → m ≡ l
-was-kept r x l e t = e ∙ ap (λ (u : Bool). cond u x l) t
 
 -- s2u limits v to -128..127 and adds 128
 s2u-cut : (v : ℤ) → s2u v ≡ cut (v +ℤ pos 128)

@@ -1,7 +1,6 @@
 -- Windows that the bounds decide: which tests of filter_yes and hev follow, and that the kernels answer as the definitions do.
 -- Assumes nothing.
 use Rattle.std.proofs.Common.{◌≡◌, ℕ, ◌+◌, ◌*◌, ◌≤◌, Bool, true, false, cond, ◌&&◌, eqb, leb, List, pos, sym, refl, ap, ◌∙◌, subst, arith, eqb-true, le-leb, leb-true}
-use mathlib.Core.Bool.{false≢true}
 use Rattle.kernels.specs.declared.limits.EdgeLimits.{EdgeLimits}
 use Rattle.kernels.specs.declared.taps.Taps.{Taps}
 use Rattle.kernels.specs.declared.bounds.Bounds.{Bounds}
@@ -12,6 +11,7 @@ use Rattle.kernels.proofs.Apart.{apart-sym, triangle, twice}
 use Rattle.kernels.proofs.Windows.{near_at}
 use Rattle.kernels.proofs.Filtered.{far, done}
 use Rattle.kernels.proofs.Sums.{two-is, four-is, six-is}
+use Rattle.kernels.proofs.Stores.{first-of, rest-of}
 
 -- ---- tests in another order
 
@@ -23,14 +23,6 @@ shuffle true true true false e f = refl
 shuffle true true false true true f = refl
 shuffle true true false true false f = refl
 shuffle true true false false e f = refl
-
-first : (a b : Bool) → (a && b) ≡ true → a ≡ true
-first true b t = refl
-first false b t = t
-
-rest : (a b : Bool) → (a && b) ≡ true → b ≡ true
-rest true b t = t
-rest false b t = absurd (false≢true t)
 
 -- the six distances of filter_yes are the outer four and the inner two
 parts : (i : ℕ) (w : Taps) → near_at i w ≡ (outer_near i w && inner_near i w)
@@ -50,8 +42,8 @@ record Inner (m : ℕ) (w : Taps) : Type 0 where
 inner : (m : ℕ) (w : Taps) → inner_near m w ≡ true → Inner m w
 unfolding low_variance
 inner m w e = record {
-  p = leb-true _ m (first (leb (apart (pos w.near.p1) (pos w.near.p0)) m) (leb (apart (pos w.near.q1) (pos w.near.q0)) m) e);
-  q = leb-true _ m (rest (leb (apart (pos w.near.p1) (pos w.near.p0)) m) (leb (apart (pos w.near.q1) (pos w.near.q0)) m) e);
+  p = leb-true _ m (first-of (leb (apart (pos w.near.p1) (pos w.near.p0)) m) (leb (apart (pos w.near.q1) (pos w.near.q0)) m) e);
+  q = leb-true _ m (rest-of (leb (apart (pos w.near.p1) (pos w.near.p0)) m) (leb (apart (pos w.near.q1) (pos w.near.q0)) m) e);
 }
 
 -- a larger bound holds too
@@ -110,14 +102,11 @@ module _ (wide : Bool) (l : List ℕ) (w : Taps) (s : Bounds) (x : Window l w s)
   pub high-plain : inner_near s.inner w ≡ false → inner_near s.limits.interior w ≡ true
       → (leb (edge_sum w.near) s.sum && eqb s.limits.threshold s.inner) ≡ true → (l' : List ℕ) → l' ≡ plain_high l w → Filtered wide s.limits l true l'
   high-plain n y k l' g =
-      let h : edge_sum w.near ≤ s.sum = leb-true (edge_sum w.near) s.sum (first (leb (edge_sum w.near) s.sum) (eqb s.limits.threshold s.inner) k) in
-      let m : s.limits.threshold ≡ s.inner = eqb-true s.limits.threshold s.inner (rest (leb (edge_sum w.near) s.sum) (eqb s.limits.threshold s.inner) k) in
+      let h : edge_sum w.near ≤ s.sum = leb-true (edge_sum w.near) s.sum (first-of (leb (edge_sum w.near) s.sum) (eqb s.limits.threshold s.inner) k) in
+      let m : s.limits.threshold ≡ s.inner = eqb-true s.limits.threshold s.inner (rest-of (leb (edge_sum w.near) s.sum) (eqb s.limits.threshold s.inner) k) in
       passes y h l' (g ∙ two-is w.near (omega (arith, x.safe.few)) l ∙ sym (by-variance (ap (λ (v : ℕ). inner_near v w) m ∙ n)))
 
 -- the bounds of the limits themselves
 module _ {m : EdgeLimits} {s : Bounds} {l : List ℕ} (q : Bounded m s) where
   pub within : {w : Taps} → Outer m.interior l w → Window l w s
   within {w} x = record { outer = subst (λ (n : EdgeLimits). Outer n.interior l w) (sym q.of-limits) x; safe = q.safe }
-
-  pub of-bounds : {wide r : Bool} {l' : List ℕ} → Filtered wide s.limits l r l' → Filtered wide m l r l'
-  of-bounds {wide} {r} {l'} f = subst (λ (n : EdgeLimits). Filtered wide n l r l') q.of-limits f

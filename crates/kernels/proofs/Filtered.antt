@@ -67,7 +67,3 @@ module _ (wide : Bool) (m : EdgeLimits) (l : List ℕ) (w : Taps) (p : w ≡ tap
 -- the answer of a test that passed, or did not
 pub of-answer : {wide : Bool} {m : EdgeLimits} {l : List ℕ} {r b : Bool} {l' : List ℕ} → r ≡ b → Filtered wide m l b l' → Filtered wide m l r l'
 of-answer {wide} {m} {l} {l' = l'} p f = subst (λ (v : Bool). Filtered wide m l v l') (sym p) f
-
--- and the list that a store left as it was
-pub of-list : {wide : Bool} {m : EdgeLimits} {l k : List ℕ} {r : Bool} {l' : List ℕ} → k ≡ l → Filtered wide m k r l' → Filtered wide m l r l'
-of-list {wide} {m} {r} {l'} p f = subst (λ (k : List ℕ). Filtered wide m k r l') p f

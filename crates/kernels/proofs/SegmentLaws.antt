@@ -6,11 +6,6 @@ use Rattle.kernels.proofs.KernelLaws.{keeps}
 
 -- ---- gathering
 
-pub length-gather : (at : ℕ → ℕ) (t n : ℕ) (l : List ℕ) → length (gather at t n l) ≡ n
-unfolding gather
-length-gather at t zero l = refl
-length-gather at t (suc n) l = ap suc (length-gather at (suc t) n l)
-
 pub gather-same :
     (at at' : ℕ → ℕ) (t n : ℕ) (l l' : List ℕ) → ((k : ℕ) → t ≤ k → k < t + n → get_or l (at k) 0 ≡ get_or l' (at' k) 0)
     → gather at t n l ≡ gather at' t n l'

@@ -27,11 +27,12 @@ store-turn n first vs l m v h e f =
 pub store-end : (n first : ℕ) (vs : List ℤ) (l m : List ℕ) → length vs ≡ n → m ≡ stored_cut first (take n vs) l → m ≡ stored_cut first vs l
 store-end n first vs l m h e = e ∙ ap (λ (ws : List ℤ). stored_cut first ws l) (take_all n vs (omega (arith, h)))
 
-first-of : (a b : Bool) → (a && b) ≡ true → a ≡ true
+-- both of two tests
+pub first-of : (a b : Bool) → (a && b) ≡ true → a ≡ true
 first-of true b t = refl
 first-of false b t = t
 
-rest-of : (a b : Bool) → (a && b) ≡ true → b ≡ true
+pub rest-of : (a b : Bool) → (a && b) ≡ true → b ≡ true
 rest-of true b t = t
 rest-of false b t = absurd (false≢true t)
 

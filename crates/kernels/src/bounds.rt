@@ -20,7 +20,7 @@ pub(crate) struct Bounds {
 fn sum_bound(edge: u8) -> u8
     ensures { (result ≤ 2 * edge + 1) × (result ≤ 123) }
 {
-    if edge < 61 { 2 * edge + 1 } else { 123 }
+    2 * edge.min(61) + 1
 }
 
 pub(crate) fn bounds_of(limits: EdgeLimits) -> Bounds

@@ -17,8 +17,8 @@ pub fn has_window(n: usize, taps: usize, base: usize) -> bool
     n.checked_sub(taps).is_some_and(|last| base <= last)
 }
 
-// common_adjust on the first samples of a slice. Each kernel has these two steps: a function that gave back the window that it lends would
-// need a clause on what its bytes end as.
+// common_adjust on the first samples of a slice. Each kernel has these two steps: of `seg[base..].first_chunk_mut()` in one function a proof
+// loses the bytes, and a function that gave back the window that it lends would need a clause on what they end as.
 #[tactic(auto, unfolding(crate::specs::Segment::adjust_answer, crate::specs::Segment::windowed, crate::specs::Segment::fits_at, crate::specs::Segment::taps, crate::specs::Segment::half))]
 fn adjust_first(outer: bool, seg: &mut [u8]) -> Result<i32, KernelRefusal>
     ensures result_value { adjust_outcome result ≡ adjust_answer outer seg.old 0 }

@@ -4,7 +4,8 @@ ghost use Rattle.kernels.specs.Private.Taps as spec;
 
 use crate::near::both_near;
 
-// A segment p1 p0 | q0 q1, as stored. The taps of `edges::position` are signed numbers with a bound of their own, and no instance of these.
+// A segment p1 p0 | q0 q1, as stored. Not one generic type with the taps of `edges::position`, which are signed numbers: it would be public,
+// for four fields.
 #[derive(Clone, Copy)]
 pub(crate) struct Near {
     pub p1: u8,

@@ -1,20 +1,18 @@
 -- Laws of the levels. Assumes nothing.
 use Rattle.std.specs.Prelude.{Option, None, Ok, Err}
-use mathlib.Core.Path.{◌≡◌, refl, sym, ap, subst, ◌∙◌}
+use mathlib.Core.Path.{◌≡◌, refl, subst}
 use mathlib.Core.Bool.{Bool, true, false, cond, ◌||◌}
 use Prim.Native.Nat.{ℕ, ◌≤◌}
 use borrow.Author.Tests.{ltb-false, le-ltb}
 use lib.Dec.{T, lit≤}
 use lib.IntN.{ℤ, pos, negsuc, ◌+ℤ◌, nat_abs}
-use lib.Signed.{lt_z, non_neg}
-use mir.Syntax.{Width}
-use mir.Val.{to_z}
+use lib.Signed.{lt_z}
 use native.Mathlib.Omega.{arith}
 use Rattle.std.specs.Int.{int_min, int_max}
 use Rattle.std.proofs.lemmas.Grind.{common_steps}
 use Rattle.arithmetic.specs.Outcome.{Outcome, gives, refuses}
 use Rattle.levels.specs.Encodings.{mode_of, reference_of, inter_mode_of, mode_case, reference_case, inter_mode_case, bad_mode, bad_reference, bad_inter_mode, bad_entry}
-use Rattle.levels.specs.Levels.{clamp_level, segment_number, level_in_segment, base_level, segment_level, ref_delta, mode_delta, adjusted_level, inter_level, key_level, level_of, key_level_of, key_answer, inter_answer}
+use Rattle.levels.specs.Levels.{clamp_level, segment_level, ref_delta, mode_delta, adjusted_level, inter_level, key_level, level_of, key_level_of, key_answer, inter_answer}
 use Rattle.levels.specs.declared.config.FrameFilterConfig.{FrameFilterConfig}
 use Rattle.levels.specs.declared.modes.IntraYMode.{IntraYMode}
 use Rattle.levels.specs.declared.modes.RefFrame.{RefFrame}
@@ -22,7 +20,6 @@ use Rattle.levels.specs.declared.modes.InterMode.{InterMode}
 use Rattle.levels.specs.Answers.{level_refusal_number}
 use Rattle.levels.specs.declared.answers.LevelRefusal.{LevelRefusal}
 use Rattle.levels.specs.declared.answers.LevelRefusal.TheVariants.{BadEntry}
-use Rattle.arithmetic.proofs.Ranges as R
 use Rattle.levels.proofs.Encodings.{mode-found, mode-refused, reference-found, reference-refused, inter-found, inter-refused}
 
 -- ---- the key level ignores references
@@ -52,22 +49,6 @@ level_limits (pos n) = grind (arith, common_steps)
 level_limits (negsuc n) = grind (arith, common_steps)
 
 -- ---- the clamp, by tests
-
-pub clamp-high : (v : ℤ) → lt_z (pos 63) v ≡ true → clamp_level v ≡ pos 63
-unfolding clamp_level
-clamp-high v e = rw e
-
-pub clamp-low : (v : ℤ) → lt_z (pos 63) v ≡ false → lt_z v (pos 0) ≡ true → clamp_level v ≡ pos 0
-unfolding clamp_level
-clamp-low v e f = rw (e, f)
-
-pub clamp-mid : (v : ℤ) → lt_z (pos 63) v ≡ false → lt_z v (pos 0) ≡ false → clamp_level v ≡ v
-unfolding clamp_level
-clamp-mid v e f = rw (e, f)
-
-pub mid-non_neg : (v : ℤ) → lt_z v (pos 0) ≡ false → T (non_neg v)
-mid-non_neg (pos n) f = tt
-mid-non_neg (negsuc n) f = absurd (subst T f tt)
 
 pub mid-small : (v : ℤ) → lt_z (pos 63) v ≡ false → lt_z v (pos 0) ≡ false → nat_abs v ≤ 63
 mid-small (pos n) e f = ltb-false 63 n e
@@ -100,39 +81,12 @@ pub key-level-small : (config : FrameFilterConfig) (segment mode : ℕ) → key_
 unfolding key_level_of
 key-level-small config segment mode = key-small config segment (mode_of mode)
 
--- ---- the segment, by the marks
-
-module _ (config : FrameFilterConfig) (segment : ℕ) where
-  pub segment-replaces : config.segment_abs ≡ true → level_in_segment config segment ≡ segment_number config segment
-  unfolding level_in_segment
-  segment-replaces h = rw h
-
-  pub segment-adds : config.segment_abs ≡ false → level_in_segment config segment ≡ pos config.loop_filter_level +ℤ segment_number config segment
-  unfolding level_in_segment
-  segment-adds h = rw h
-
-  pub with-segments : config.segmentation_enabled ≡ true → base_level config segment ≡ level_in_segment config segment
-  unfolding base_level
-  with-segments h = rw h
-
-  pub without-segments : config.segmentation_enabled ≡ false → base_level config segment ≡ pos config.loop_filter_level
-  unfolding base_level
-  without-segments h = rw h
-
 -- ---- the deltas, by the mark
 
 module _ (config : FrameFilterConfig) (segment : ℕ) (r : Option RefFrame) (i : Option InterMode) (m : IntraYMode) where
   pub with-deltas : config.delta_enabled ≡ true → adjusted_level config segment r i m ≡ segment_level config segment +ℤ ref_delta config r +ℤ mode_delta config r i m
   unfolding adjusted_level
   with-deltas h = rw h
-
-  pub without-deltas : config.delta_enabled ≡ false → adjusted_level config segment r i m ≡ segment_level config segment
-  unfolding adjusted_level
-  without-deltas h = rw h
-
--- ---- a test of a signed local, against what it holds
-pub above : {w : Width} {n : ℕ} {z : ℤ} {A : ℕ} → R.Is w n z A → (k : ℤ) (b : Bool) → lt_z k (to_z w n) ≡ b → lt_z k z ≡ b
-above p k b e = sym (ap (λ (v : ℤ). lt_z k v) p.val) ∙ e
 
 -- ---- the answers, by the cases of the bytes
 

@@ -1,10 +1,11 @@
 // The case that a byte of an entry stands for, or refusal 6 (document 01, Option lists).
 ghost use Rattle.std.specs.Prelude.{◌≡◌};
-ghost use Rattle.levels.specs.Encodings.{reference_case, inter_mode_case};
+ghost use Rattle.levels.specs.Encodings.{reference_case, inter_mode_case, mode_of, reference_of, inter_mode_of};
 
 use crate::answers::LevelRefusal;
 use crate::modes::{InterMode, IntraYMode, RefFrame};
 
+// By hand: std derives no TryFrom for an enum.
 impl TryFrom<u8> for IntraYMode {
     type Error = LevelRefusal;
 
@@ -54,4 +55,27 @@ pub fn inter_mode_case(byte: u8) -> Result<Option<InterMode>, LevelRefusal>
         5 => Ok(Some(InterMode::Split)),
         6.. => Err(LevelRefusal::BadEntry),
     }
+}
+
+// The case of a byte that 6 has passed. The definitions on all numbers (`mode_of` and its kin) count a byte without a case as the last
+// case, and so do these; each names the decoding and the last case of its type.
+#[tactic(auto, using(crate::proofs::Encodings::mode_or_last))]
+pub fn mode_of(byte: u8) -> IntraYMode
+    ensures { result ≡ mode_of byte }
+{
+    IntraYMode::try_from(byte).unwrap_or(IntraYMode::B)
+}
+
+#[tactic(auto, using(crate::proofs::Encodings::reference_or_last))]
+pub fn reference_of(byte: u8) -> Option<RefFrame>
+    ensures { result ≡ reference_of byte }
+{
+    reference_case(byte).unwrap_or(Some(RefFrame::AltRef))
+}
+
+#[tactic(auto, using(crate::proofs::Encodings::inter_mode_or_last))]
+pub fn inter_mode_of(byte: u8) -> Option<InterMode>
+    ensures { result ≡ inter_mode_of byte }
+{
+    inter_mode_case(byte).unwrap_or(Some(InterMode::Split))
 }

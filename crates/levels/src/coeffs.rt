@@ -2,7 +2,7 @@
 ghost use Rattle.std.specs.Prelude.{◌≡◌, ◌≢◌, ◌<◌, ◌≤◌, ℕ, length, get_or, pos};
 ghost use Rattle.levels.specs.Coefficients.{has_coeffs, first_coeff};
 
-// The place of the first number that is not 0, or the list's length.
+// The place of the first number that is not 0, or the list's length. A function of its own: the laws go by its three clauses.
 fn first_set(coeffs: &[i16]) -> usize
     ensures within { result ≤ length coeffs.now }
     ensures zeros_before { (k : ℕ) → k < result → get_or coeffs.now k (pos 0) ≡ pos 0 }

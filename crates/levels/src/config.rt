@@ -1,7 +1,8 @@
 // The settings of a frame's loop filter (RFC 6386, sections 9.3 and 9.4).
 use arithmetic::limits::LoopFilterParams;
 
-#[derive(Clone, Copy)]
+// The default of each is 0 or off.
+#[derive(Clone, Copy, Default)]
 pub struct FrameFilterConfig {
     // filter_type: the simple filter, else the normal one.
     pub simple: bool,

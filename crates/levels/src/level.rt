@@ -162,7 +162,7 @@ pub fn calculate_mb_filter_level(
 }
 
 // The inter level, or refusal 6: mode above 4, reference above 3 or inter mode above 5. Apart from the key level, whose callers have no
-// reference and no inter mode to give.
+// reference and no inter mode to give: by this one it would decode two bytes that stand for none.
 #[tactic(auto, using(crate::proofs::Levels::mode_refuses, crate::proofs::Levels::reference_refuses, crate::proofs::Levels::inter_refuses, crate::proofs::Levels::inter_gives))]
 pub fn calculate_mb_filter_level_inter(
     config: FrameFilterConfig,

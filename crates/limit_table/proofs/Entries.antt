@@ -1,5 +1,5 @@
 -- The table of interior limits, entry by entry.
-use mathlib.Core.Path.{◌≡◌, sym, ap, ◌∙◌}
+use mathlib.Core.Path.{◌≡◌, refl, ap, ◌∙◌}
 use mathlib.Core.List.{List, []}
 use Prim.Native.Nat.{ℕ, ◌<◌}
 use lib.ListN.{get_or}
@@ -15,6 +15,6 @@ entry t e s l hs hl =
     ∙ ap (λ (row : List ℕ). get_or row l 0) (get_or-table 8 _ s [] hs)
     ∙ get_or-table 64 _ l 0 hl
 
--- an arm: a number read in row s is the limit of sharpness k, which is s
-pub arm : (t : List (List ℕ)) → t ≡ interior_limits → (s l k r : ℕ) → r ≡ get_or (get_or t s []) l 0 → s < 8 → l < 64 → k ≡ s → r ≡ interior_limit l k
-arm t e s l k r p hs hl q = p ∙ entry t e s l hs hl ∙ ap (interior_limit l) (sym q)
+-- the same of the table itself
+pub entry_of_table : (s l : ℕ) → s < 8 → l < 64 → get_or (get_or interior_limits s []) l 0 ≡ interior_limit l s
+entry_of_table s l hs hl = entry interior_limits refl s l hs hl

@@ -1,2 +1,3 @@
--- The table, entry by entry.
+-- The table, entry by entry and as bytes.
 pub mod Entries
+pub mod Flat

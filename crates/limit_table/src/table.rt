@@ -6,7 +6,7 @@ ghost use Rattle.limit_table.specs.InteriorLimits.{interior_limits, bytes_taken,
 use arithmetic::limits::{LoopFilterParams, interior_limit};
 
 // A row for each sharpness 0 to 7, and in it an entry for each level 0 to 63: a line with levels 0 to 31, and one with 32 to 63.
-const INTERIOR_LIMITS: [[u8; 64]; 8] = [
+static INTERIOR_LIMITS: [[u8; 64]; 8] = [
     *b"\x01\x01\x02\x03\x04\x05\x06\x07\x08\x09\x0a\x0b\x0c\x0d\x0e\x0f\x10\x11\x12\x13\x14\x15\x16\x17\x18\x19\x1a\x1b\x1c\x1d\x1e\x1f\
        \x20\x21\x22\x23\x24\x25\x26\x27\x28\x29\x2a\x2b\x2c\x2d\x2e\x2f\x30\x31\x32\x33\x34\x35\x36\x37\x38\x39\x3a\x3b\x3c\x3d\x3e\x3f",
     *b"\x01\x01\x01\x01\x02\x02\x03\x03\x04\x04\x05\x05\x06\x06\x07\x07\x08\x08\x08\x08\x08\x08\x08\x08\x08\x08\x08\x08\x08\x08\x08\x08\
@@ -31,32 +31,16 @@ pub fn interior_limits() -> [[u8; 64]; 8]
     INTERIOR_LIMITS
 }
 
-fn in_row(row: [u8; 64], level: u8) -> u8
-    requires { level < 64 }
-    ensures { result ≡ get_or row level 0 }
-{
-    row[level as usize]
-}
-
-// From the table where it has an entry, else derived. Each arm names its row, so that only this row is built: an array indexed by a
-// variable would be built whole.
+// From the table where it has an entry, else derived.
+#[tactic(auto, using(crate::proofs::Entries::entry_of_table))]
 fn interior_at(level: u8, sharpness: u8) -> u8
     ensures { result ≡ interior_limit level sharpness }
 {
-    if level > LoopFilterParams::MAX_LEVEL {
+    if (level > LoopFilterParams::MAX_LEVEL) | (sharpness > 7) {
         return interior_limit(level, sharpness);
     }
-    match sharpness {
-        0 => in_row(interior_limits()[0], level),
-        1 => in_row(interior_limits()[1], level),
-        2 => in_row(interior_limits()[2], level),
-        3 => in_row(interior_limits()[3], level),
-        4 => in_row(interior_limits()[4], level),
-        5 => in_row(interior_limits()[5], level),
-        6 => in_row(interior_limits()[6], level),
-        7 => in_row(interior_limits()[7], level),
-        _ => interior_limit(level, sharpness),
-    }
+    let row = INTERIOR_LIMITS[usize::from(sharpness)];
+    row[usize::from(level)]
 }
 
 // The limits that `derive` gives, with the interior limit from the table where it has one.
@@ -75,10 +59,6 @@ pub fn copy_interior_limits(into: &mut [u8]) -> usize
 {
     let n = into.len().min(512);
     let table = interior_limits();
-    // i is a byte of the slice and of the table, which has rows.
-    for i in 0..n {
-        let row = table[i / 64];
-        into[i] = row[i % 64];
-    }
+    into[..n].copy_from_slice(&table.as_flattened()[..n]);
     n
 }

@@ -13,38 +13,21 @@ use mir.Val.{bool_byte}
 use Rattle.kernels.specs.Segment.{mark}
 use Rattle.calls.specs.Smoothed.{part}
 use Rattle.calls.specs.Answers.{Passed, pass_outcome, part_outcome}
-use Rattle.calls.specs.FinalRows.{Rows}
 use Rattle.std.specs.Prelude.{Result}
 use Rattle.calls.specs.declared.answers.Done.{Done}
 use Rattle.calls.specs.declared.answers.PassRefusal.{PassRefusal}
 use Rattle.search.specs.Search.{SearchCall, Choice, LevelChoice, search_answer, level_only, scratch_after, Searched, LevelSearched}
 use Rattle.stills.specs.FullSearch.{FullChoice, full_answer, scratch_after_full, FullSearched}
-use Rattle.loop_filter.specs.Returned.{
-  out_of,
-  Returned,
-  PassedReturned,
-  ProgressReturned,
-  PassReturned,
-  RowsReturned,
-  ChoiceReturned,
-  LevelReturned,
-  SearchReturned,
-  LevelSearchReturned,
-  FullChoiceReturned,
-  FullSearchReturned,
-}
+use Rattle.loop_filter.specs.Returned.{out_of, Returned, ProgressReturned, PassReturned, ChoiceReturned, LevelReturned, SearchReturned, LevelSearchReturned, FullChoiceReturned, FullSearchReturned}
 
 pub returned : {X : Type 0} {o o' : Outcome X} {n : ℕ} {a b : X} → o ≡ o' → Returned o n a b → Returned o' n a b
 returned {X} {a = a} e r = record { number = r.number ∙ ap number_of e; out = r.out ∙ ap (λ (o : Outcome X). out_of (λ x. x) o a) e }
 
 -- a `bool` as a byte
-pub mark-byte : (b : Bool) → bool_byte b ≡ mark b
+pub mark_byte : (b : Bool) → bool_byte b ≡ mark b
 unfolding mark
-mark-byte true = refl
-mark-byte false = refl
-
-pub kernel-passed : {o o' : Outcome Bool} {n a b : ℕ} → o ≡ o' → PassedReturned o n a b → PassedReturned o' n a b
-kernel-passed {a = a} e r = record { number = r.number ∙ ap number_of e; out = r.out ∙ ap (λ (o : Outcome Bool). out_of mark o a) e }
+mark_byte true = refl
+mark_byte false = refl
 
 pub progress : {o o' : Outcome Progress} {s s' : Outcome ℕ} {n a b c d e f : ℕ} → o ≡ o' → s ≡ s' → ProgressReturned o s n a b c d e f → ProgressReturned o' s' n a b c d e f
 progress {a = a} {b = b} {c = c} q t r = record {
@@ -52,13 +35,6 @@ progress {a = a} {b = b} {c = c} q t r = record {
   count = r.count ∙ ap (λ (o : Outcome Progress). out_of (λ (x : Progress). x.count) o a) q;
   next = r.next ∙ ap (λ (o : Outcome Progress). out_of (λ (x : Progress). x.next) o b) q;
   smoothed = r.smoothed ∙ ap (λ (o : Outcome ℕ). out_of (λ x. x) o c) t;
-}
-
-pub rows : {o o' : Outcome Rows} {n a b c d : ℕ} → o ≡ o' → RowsReturned o n a b c d → RowsReturned o' n a b c d
-rows {a = a} {b = b} e r = record {
-  number = r.number ∙ ap number_of e;
-  luma = r.luma ∙ ap (λ (o : Outcome Rows). out_of (λ (x : Rows). x.luma) o a) e;
-  chroma = r.chroma ∙ ap (λ (o : Outcome Rows). out_of (λ (x : Rows). x.chroma) o b) e;
 }
 
 -- a pass whose settings crossed as numbers

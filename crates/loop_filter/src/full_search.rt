@@ -19,6 +19,7 @@ use sums::answers::SearchRefusal;
 use sums::source::SourcePlanes;
 
 // Returns 0 and puts the chosen pair and its sum, or returns the number of the refusal.
+#[tactic(auto, unfolding(arithmetic::specs::Outcome::number_of, crate::specs::Returned::out_of))]
 fn put_full_choice(
     answer: Result<Best, SearchRefusal>,
     level: &mut u8,
@@ -30,8 +31,8 @@ fn put_full_choice(
 {
     match answer {
         Ok(best) => {
-            *level = best.level;
-            *sharpness = best.sharpness;
+            *level = best.pair.level;
+            *sharpness = best.pair.sharpness;
             *sum = best.sum;
             0
         }

@@ -18,6 +18,7 @@ use planes::layout::PlaneLayout;
 use planes::picture::PictureMut;
 
 // Returns 0 and puts the count, the next start and the positions smoothed, or returns the number of the refusal.
+#[tactic(auto, unfolding(calls::specs::Answers::pass_refusal_number, arithmetic::specs::Outcome::number_of, crate::specs::Returned::out_of))]
 fn put_progress(
     answer: Result<Done, PassRefusal>,
     count: &mut usize,
@@ -391,6 +392,7 @@ pub extern "C" fn vp8lf_loop_filter_inter_frame(
 }
 
 // The rows go through `luma` and `chroma`, which a refusal leaves alone.
+#[tactic(auto, unfolding(arithmetic::specs::Outcome::number_of, crate::specs::Returned::out_of))]
 #[unsafe(no_mangle)]
 pub extern "C" fn vp8lf_final_rows(
     mb_cols: usize,

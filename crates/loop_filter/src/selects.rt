@@ -21,6 +21,7 @@ use sums::source::SourcePlanes;
 use sums::sums::reconstruction_ssd;
 
 // The sum goes through `sum`, which a refusal leaves alone.
+#[tactic(auto, unfolding(arithmetic::specs::Outcome::number_of, crate::specs::Returned::out_of))]
 #[unsafe(no_mangle)]
 pub extern "C" fn vp8lf_reconstruction_ssd<'s>(
     y: &[u8],
@@ -70,6 +71,7 @@ pub extern "C" fn vp8lf_reconstruction_ssd<'s>(
 
 // Returns 0 and puts the chosen pair and the count, or returns the number of the refusal. Each C function has an answer of its own, and a
 // parameter for each of its fields.
+#[tactic(auto, unfolding(arithmetic::specs::Outcome::number_of, crate::specs::Returned::out_of))]
 fn put_choice(
     answer: Result<FilterParams, SearchRefusal>,
     level: &mut u8,
@@ -81,8 +83,8 @@ fn put_choice(
 {
     match answer {
         Ok(chosen) => {
-            *level = chosen.level;
-            *sharpness = chosen.sharpness;
+            *level = chosen.pair.level;
+            *sharpness = chosen.pair.sharpness;
             *count = chosen.count;
             0
         }
@@ -91,6 +93,7 @@ fn put_choice(
 }
 
 // The same without the sharpness.
+#[tactic(auto, unfolding(arithmetic::specs::Outcome::number_of, crate::specs::Returned::out_of))]
 fn put_level(answer: Result<FilterLevel, SearchRefusal>, level: &mut u8, count: &mut usize) -> u8
     ensures { LevelReturned (level_only_outcome answer)
         result level.old count.old level.new count.new }

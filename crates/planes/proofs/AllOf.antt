@@ -21,7 +21,3 @@ all-only false h = none
 pub all_map : {A : Type 0} {P Q : A → Type 0} {xs : List A} → ((x : A) → P x → Q x) → All P xs → All Q xs
 all_map f none = none
 all_map f (◌&◌ {x = x} p ps) = f x p & all_map f ps
-
-pub all-zip : {A : Type 0} {P Q : A → Type 0} {xs : List A} → All P xs → All Q xs → All (λ x. P x × Q x) xs
-all-zip none none = none
-all-zip (p & ps) (q & qs) = (p, q) & all-zip ps qs

@@ -2,12 +2,11 @@
 use mathlib.Core.Path.{◌≡◌, refl, subst}
 use mathlib.Core.Bool.{Bool, true, false, ◌||◌}
 use mathlib.Core.Logic.{⊎_elim}
-use Prim.Native.Nat.{ℕ, ◌+◌, ◌-◌, ◌*◌, ◌≤◌, ◌<◌}
+use Prim.Native.Nat.{ℕ, ◌*◌, ◌≤◌, ◌<◌}
 use native.Mathlib.Nat.{mul-le-mul, zero-mul, mul-zero, eq-zero-or-pos}
-use native.Mathlib.Omega.{arith}
-use lib.Dec.{T, ltb, leb, eqb}
+use lib.Dec.{T, ltb, eqb}
 use lib.ListN.{length}
-use borrow.Author.Tests.{ltb-true, ltb-false, le-leb, lt-leb, eqb-true, eqb-false}
+use borrow.Author.Tests.{ltb-false, eqb-true, eqb-false}
 use Rattle.planes.specs.Planes.{Planes, Grid, macroblocks}
 use Rattle.planes.specs.GridRefusals.{zero_grid, too_large, bad_strides, short_planes, after_grid, past_grid, short_by, grid_refusal}
 use Rattle.planes.specs.Layout.{grid_of}
@@ -16,19 +15,8 @@ use Rattle.planes.specs.declared.layout.PlaneLayout.{PlaneLayout}
 
 -- ---- numbers
 
-pub area : (r s : ℕ) → r ≤ 16384 → s ≤ 65536 → (r - 1) * s ≤ 16384 * 65536
-area r s h k = mul-le-mul {n₁ = r - 1} {m₁ = s} {n₂ = 16384} {m₂ = 65536} (omega arith) k
-
 pub grid_fits : (c r : ℕ) → c ≤ 1024 → r ≤ 1024 → c * r ≤ 1048576
 grid_fits c r h k = mul-le-mul {n₁ = c} {m₁ = r} {n₂ = 1024} {m₂ = 1024} h k
-
--- a list is too short for its last index
-pub short-is : (len a w : ℕ) → 0 < w → leb len (a + (w - 1)) ≡ ltb len (a + w)
-short-is len a w h = by (ltb len (a + w)) refl
-  where
-    by : (b : Bool) → ltb len (a + w) ≡ b → leb len (a + (w - 1)) ≡ b
-    by true e = le-leb len (a + (w - 1)) (omega (arith, ltb-true len (a + w) e))
-    by false e = lt-leb len (a + (w - 1)) (omega (arith, ltb-false len (a + w) e))
 
 pos_of : (n : ℕ) → (n ≡ 0 → ⊥) → 0 < n
 pos_of n h = ⊎_elim (λ z. absurd (h z)) (λ z. z) (eq-zero-or-pos n)

@@ -1,15 +1,15 @@
 -- What comes after refusals 1, 2 and 3, and what they leave of a grid and its planes where none holds. Assumes nothing.
-use mathlib.Core.Path.{◌≡◌, refl, sym, ◌∙◌}
-use mathlib.Core.Bool.{Bool, true, false, cond, ◌||◌, or-true}
+use mathlib.Core.Path.{◌≡◌, refl, sym}
+use mathlib.Core.Bool.{Bool, true, false, cond, ◌||◌}
 use Prim.Native.Nat.{ℕ, ◌+◌, ◌-◌, ◌*◌, ◌≤◌, ◌<◌}
 use native.Mathlib.Nat.{mul-le-mul_right}
 use native.Mathlib.Omega.{arith}
-use lib.Dec.{ltb, eqb}
+use lib.Dec.{ltb}
 use lib.ListN.{length}
-use borrow.Author.Tests.{ltb-false, eq-eqb, ne_eqb}
+use borrow.Author.Tests.{ltb-false, ne_eqb}
 use Rattle.planes.specs.Planes.{Plane, luma, chroma_u, chroma_v, Planes, Grid, side, stride, plane, macroblocks, StridesHold, PlanesHold}
-use Rattle.planes.specs.GridRefusals.{zero_grid, too_large, bad_strides, needed, short_planes, after_grid, past_grid, grid_refusal}
-use Rattle.planes.proofs.GridLaws.{neither, none, grid_fits, by_lengths}
+use Rattle.planes.specs.GridRefusals.{zero_grid, too_large, bad_strides, needed, short_planes, after_grid, past_grid}
+use Rattle.planes.proofs.GridLaws.{neither, none, grid_fits}
 
 true-false : {A : Type 0} → true ≡ false → A
 true-false e = let z : ◌≡◌ {A = ℕ} 0 1 = cc in absurd (omega arith)
@@ -24,14 +24,6 @@ pub grid-there : (g : Grid) → (g.columns ≡ 0 → ⊥) → (g.rows ≡ 0 → 
 unfolding zero_grid
 grid-there g a b = rw (ne_eqb g.columns 0 a, ne_eqb g.rows 0 b)
 
-pub no-columns : (g : Grid) → g.columns ≡ 0 → zero_grid g ≡ true
-unfolding zero_grid
-no-columns g a = rw (eq-eqb g.columns 0 a)
-
-pub no_rows : (g : Grid) → g.rows ≡ 0 → zero_grid g ≡ true
-unfolding zero_grid
-no_rows g b = rw (eq-eqb g.rows 0 b) (or-true (eqb g.columns 0))
-
 -- ---- the lengths alone decide
 
 pub past-lengths : (g : Grid) (p p' : Planes) (rest : ℕ) → ((q : Plane) → length (plane q p) ≡ length (plane q p')) → past_grid g p rest ≡ past_grid g p' rest
@@ -39,10 +31,6 @@ unfolding past_grid after_grid short_planes
 past-lengths g p p' rest len =
     λ i. cond (zero_grid g) rest (cond (too_large g) 1 (cond (bad_strides g) 2
     (cond (ltb (len luma i) (needed g luma) || ltb (len chroma_u i) (needed g chroma_u) || ltb (len chroma_v i) (needed g chroma_v)) 3 rest)))
-
--- the number by the lengths is that of the planes
-pub of-lengths : (g : Grid) (p : Planes) (n : ℕ) → n ≡ grid_refusal g (length p.y) (length p.u) (length p.v) → n ≡ past_grid g p 0
-of-lengths g p n e = e ∙ by_lengths g p
 
 -- ---- what 1, 2 and 3 leave
 
@@ -156,18 +144,6 @@ module _ (g : Grid) (p : Planes) where
       by false false true d e = sym e
       by false false false true e = sym e
       by false false false false e = absurd (nz e)
-
-  -- and it is 1, 2 or 3
-  pub is-three : (n : ℕ) → n ≡ past_grid g p 0 → (n ≡ 1 → ⊥) → (n ≡ 2 → ⊥) → (n ≡ 0 → ⊥) → n ≡ 3
-  unfolding past_grid after_grid
-  is-three n e n1 n2 n0 = by (zero_grid g) (too_large g) (bad_strides g) (short_planes g p) e
-    where
-      by : (z a b d : Bool) → n ≡ cond z 0 (cond a 1 (cond b 2 (cond d 3 0))) → n ≡ 3
-      by true a b d e = absurd (n0 e)
-      by false true b d e = absurd (n1 e)
-      by false false true d e = absurd (n2 e)
-      by false false false true e = e
-      by false false false false e = absurd (n0 e)
 
   -- where nothing is refused, neither 1, 2 and 3 nor the rest is
   pub grid-none : (rest : ℕ) → past_grid g p rest ≡ 0 → (past_grid g p 0 ≡ 0) × (rest ≡ 0)

@@ -3,8 +3,8 @@ use mathlib.Core.Path.{◌≡◌, refl, sym, ap, ◌∙◌}
 use mathlib.Core.List.{List, [], ◌∷◌, ◌++◌, append_assoc}
 use Prim.Native.Nat.{ℕ}
 use Rattle.kernels.specs.Segment.{Kernel}
-use Rattle.planes.specs.Planes.{Plane, Planes, Grid, on_plane, grid_row, grid_column}
-use Rattle.planes.specs.Edges.{Direction, Edge, filter_edge, Place, places}
+use Rattle.planes.specs.Planes.{Plane, Planes, Grid, grid_row, grid_column}
+use Rattle.planes.specs.Edges.{Direction, Edge, Place, places}
 use Rattle.planes.specs.Macroblock.{Plan, leave, edge_at, edges_at, filter_edges, filter_macroblock}
 
 pub edges_at-append : (plan : Plan) (r c : ℕ) (front back : List Place) → edges_at plan r c (front ++ back) ≡ edges_at plan r c front ++ edges_at plan r c back
@@ -13,31 +13,13 @@ edges_at-append plan r c [] back = refl
 edges_at-append plan r c (q ∷ qs) back =
     ap (λ (l : List Edge). edge_at plan r c q ++ l) (edges_at-append plan r c qs back) ∙ sym (append_assoc (edge_at plan r c q) (edges_at plan r c qs) (edges_at plan r c back))
 
-pub filter_edges-append : (g : Grid) (r c : ℕ) (front back : List Edge) (p : Planes) → filter_edges g r c (front ++ back) p ≡ filter_edges g r c back (filter_edges g r c front p)
-unfolding filter_edges
-filter_edges-append g r c [] back p = refl
-filter_edges-append g r c (e ∷ es) back p = filter_edges-append g r c es back (on_plane e.on (filter_edge g r c e) p)
-
 -- the edges at some places
 unfoldable pub filter_at : Grid → Plan → (r c : ℕ) → List Place → Planes → Planes
 filter_at g plan r c qs = filter_edges g r c (edges_at plan r c qs)
 
-pub filter_at-append : (g : Grid) (plan : Plan) (r c : ℕ) (front back : List Place) (p : Planes)
-    → filter_at g plan r c (front ++ back) p ≡ filter_at g plan r c back (filter_at g plan r c front p)
-unfolding filter_at
-filter_at-append g plan r c front back p =
-    ap (λ (l : List Edge). filter_edges g r c l p) (edges_at-append plan r c front back) ∙ filter_edges-append g r c (edges_at plan r c front) (edges_at plan r c back) p
-
 pub macroblock-parts : (g : Grid) (plan : ℕ → Plan) (m : ℕ) (p : Planes) → filter_macroblock g plan m p ≡ filter_at g (plan m) (grid_row g m) (grid_column g m) places p
 unfolding filter_macroblock filter_at
 macroblock-parts g plan m p = refl
-
--- what comes before a place, its edge if it has one, and the rest
-pub around-place : (g : Grid) (plan : Plan) (r c : ℕ) (front : List Place) (q : Place) (back : List Place) (p : Planes)
-    → filter_at g plan r c (front ++ q ∷ back) p ≡ filter_at g plan r c back (filter_edges g r c (edge_at plan r c q) (filter_at g plan r c front p))
-unfolding filter_at edges_at
-around-place g plan r c front q back p =
-    filter_at-append g plan r c front (q ∷ back) p ∙ filter_edges-append g r c (edge_at plan r c q) (edges_at plan r c back) (filter_at g plan r c front p)
 
 -- ---- edges
 

@@ -17,7 +17,7 @@ pub enum GridRefusal {
 }
 
 // One plane's part of 3: no sample stands at the index of the grid's last one. By the length alone: no sample is read. The bounds are of a
-// layout that 1 and 2 let pass; one as callers make it has none.
+// layout that 1 and 2 let pass; one as callers make it has none. A public function, for sums too, would check sums that can't wrap here.
 fn short_plane(len: usize, rows: usize, stride: usize, width: usize) -> bool
     requires { (0 < rows) × (rows ≤ 16384) × (stride ≤ 65536) × (0 < width) × (width ≤ 16384) }
     ensures { result ≡ ltb len ((rows - 1) * stride + width) }

@@ -3,8 +3,8 @@ ghost use Rattle.std.specs.Prelude.{◌≡◌, Ok, Err, IfNone, IfSome};
 
 use levels::config::FrameFilterConfig;
 use planes::layout::PlaneLayout;
-use std::io;
 use std::io::Read;
+use std::{array, io};
 
 pub fn read_array<const N: usize>(rt: &impl Input) -> io::Result<[u8; N]> {
     let mut block = [0u8; N];
@@ -21,10 +21,6 @@ pub fn read_flag(rt: &impl Input) -> io::Result<bool> {
     Ok(read_u8(rt)? != 0)
 }
 
-pub fn read_u16(rt: &impl Input) -> io::Result<u16> {
-    Ok(u16::from_le_bytes(read_array(rt)?))
-}
-
 // The largest number of four bytes stands for the largest size.
 pub fn read_size(rt: &impl Input) -> io::Result<usize> {
     let n = u32::from_le_bytes(read_array(rt)?);
@@ -35,7 +31,8 @@ pub fn read_size(rt: &impl Input) -> io::Result<usize> {
     }
 }
 
-// A signed number is written as far above 0 as its value is above the type's smallest. One function for each type: their bytes and smallest numbers are in no trait of std, and one of our own would need an impl for each type.
+// A signed number is written as far above 0 as its value is above the type's smallest. One function for each type: their bytes and smallest
+// numbers are in no trait of std, one of our own would need an impl for each type, and that of crate num_traits has a `requires`.
 
 pub fn read_i32(rt: &impl Input) -> io::Result<i32> {
     Ok(i32::from_le_bytes(read_array(rt)?).wrapping_add(i32::MIN))
@@ -57,22 +54,21 @@ pub struct Place {
     pub allowance: usize,
 }
 
-pub fn read_place(rt: &impl Input) -> io::Result<Place> {
-    let layout = PlaneLayout {
+pub fn read_layout(rt: &impl Input) -> io::Result<PlaneLayout> {
+    Ok(PlaneLayout {
         mb_cols: read_size(rt)?,
         mb_rows: read_size(rt)?,
         y_stride: read_size(rt)?,
         uv_stride: read_size(rt)?,
-    };
-    Ok(Place {
-        layout,
-        start: read_size(rt)?,
-        allowance: read_size(rt)?,
     })
 }
 
-fn read_segment_numbers(rt: &impl Input) -> io::Result<[i16; 4]> {
-    Ok([read_i16(rt)?, read_i16(rt)?, read_i16(rt)?, read_i16(rt)?])
+pub fn read_place(rt: &impl Input) -> io::Result<Place> {
+    Ok(Place {
+        layout: read_layout(rt)?,
+        start: read_size(rt)?,
+        allowance: read_size(rt)?,
+    })
 }
 
 pub fn read_settings(rt: &impl Input) -> io::Result<FrameFilterConfig> {
@@ -84,7 +80,7 @@ pub fn read_settings(rt: &impl Input) -> io::Result<FrameFilterConfig> {
         segmentation_enabled: read_flag(rt)?,
         segment_abs: read_flag(rt)?,
         delta_enabled: read_flag(rt)?,
-        segment_lf_level: read_segment_numbers(rt)?,
+        segment_lf_level: array::try_from_fn(|_| read_i16(rt))?,
         ref_delta_current: read_i16(rt)?,
         bpred_mode_delta: read_i16(rt)?,
         ref_delta_last: read_i16(rt)?,

@@ -1,4 +1,5 @@
-// What a program writes: a line for each section, with a mark for each call of its records. A call that the input ends in is marked as one that was not answered as recorded.
+// What a program writes: a line for each section, with a mark for each call of its records. A call that the input ends in is marked as one
+// that was not answered as recorded.
 ghost use Rattle.std.specs.Prelude.{◌≡◌, ◌≢◌, Ok, Err, Some, None, IfOk, IfErr};
 ghost use Rattle.std.specs.IoError.{error_kind};
 ghost use Rattle.std.specs.declared.io.ErrorKind.TheVariants.{UnexpectedEof};
@@ -36,7 +37,8 @@ pub fn mark_record(rt: &impl Print, marks: usize, last: io::Result<bool>) -> io:
     Ok(())
 }
 
-// Begins a line by its name. The input has the count of the section's records before them, two bytes; where it ends in them, a mark says so, and those that are there count.
+// Begins a line by its name. The input has the count of the section's records before them, two bytes; where it ends in them, a mark says
+// so, and those that are there count.
 pub fn begin_section(rt: &(impl Input + Print), name: &str) -> io::Result<u16> {
     print!(rt; "{name} ")?;
     let mut count = [0u8; 2];

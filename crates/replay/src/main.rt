@@ -1,8 +1,10 @@
-// Replays recorded calls of the functions that the Rust has too, but for sums and searches, and of the frame calls, from standard input, and marks each that is answered as it was recorded.
+// Replays recorded calls of the functions that the Rust has too, but for sums and searches, and of the frame calls, from standard input,
+// and marks each that is answered as it was recorded.
 #![tactic(auto)]
 
 mod passes;
 mod records;
+mod sections;
 mod small;
 
 use crate::passes::{Step, call_sections, film_sections};

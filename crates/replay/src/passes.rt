@@ -1,30 +1,26 @@
 // The passes and frame calls. Each record is one recorded call, or two.
 ghost use Rattle.std.specs.Prelude.{◌≤◌};
 
-use crate::records::Records;
-use calls::answers::PassRefusal;
-use frame::entries::{InterLists, InterRecords, KeyLists, KeyRecords};
+use crate::records::read_records;
+use crate::sections::section;
+use calls::records::MacroblockModes;
+use frame::entries::{InterRecords, KeyRecords};
 use frame::pass::filter_frame;
 use frame_calls::frame_call::loop_filter_frame;
 use judge::entries::Entries;
 use levels::config::FrameFilterConfig;
-use planes::picture::PictureMut;
 use recording::input::{Place, Recorded, read_place, read_recorded, read_settings};
-use recording::marks::{begin_section, if_whole, mark, mark_record};
-use recording::picture::{Lists, Picture, Planes, read_lists, read_planes, stripes};
+use recording::kinds::{Frames, Recording};
+use recording::marks::{if_whole, mark};
+use recording::picture::{Lists, Planes, Samples, read_lists, read_planes};
 use std::{fmt, io};
 
-// A pass, or the frame call beside it.
+// A pass, or the frame call beside it. An enum: no closure takes entries of every type, and a trait would give each function from
+// `call_sections` to `over` a type parameter for a choice that only `over` makes.
 #[derive(Clone, Copy)]
 pub enum Step {
     Pass,
     FrameCall,
-}
-
-#[derive(Clone, Copy)]
-enum Frames {
-    Key,
-    Inter,
 }
 
 #[derive(Clone, Copy)]
@@ -64,28 +60,26 @@ fn read_task(rt: &impl Input, call: Call) -> io::Result<Task> {
     })
 }
 
-// What a call answers, the count and the next start, and what it leaves.
-#[derive(Clone, Copy)]
-struct Left<const Y: usize, const U: usize, const V: usize> {
-    answer: Result<(usize, usize), PassRefusal>,
-    planes: Planes<Y, U, V>,
+// What a call answers, the count and the next start or the number of its refusal, and what it leaves: every sample, also those outside
+// the grid.
+#[derive(Clone, Copy, PartialEq, Eq)]
+struct Left<P> {
+    answer: Result<(usize, usize), u8>,
+    planes: P,
+}
+
+fn recorded_left<P: Copy>(recorded: Recorded<(usize, usize)>, planes: P) -> Left<P> {
+    Left {
+        answer: recorded.answer(),
+        planes,
+    }
 }
 
 fn over<const Y: usize, const U: usize, const V: usize, E: Entries>(
     task: Task,
     entries: E,
-    before: Planes<Y, U, V>,
-) -> Left<Y, U, V> {
-    let Planes {
-        mut y,
-        mut u,
-        mut v,
-    } = before;
-    let mut picture = PictureMut {
-        y: &mut y,
-        u: &mut u,
-        v: &mut v,
-    };
+    mut planes: Planes<Y, U, V>,
+) -> Left<Planes<Y, U, V>> {
     let Task {
         call,
         place,
@@ -96,44 +90,38 @@ fn over<const Y: usize, const U: usize, const V: usize, E: Entries>(
         start,
         allowance,
     } = place;
+    let mut picture = planes.lend_mut();
     let answer = match call.step {
         Step::Pass => filter_frame(&mut picture, layout, entries, config, start, allowance),
         Step::FrameCall => {
             loop_filter_frame(&mut picture, layout, entries, config, start, allowance)
         }
     };
+    let answer = answer.map(|done| (done.count, done.next));
     Left {
-        answer: answer.map(|done| (done.count, done.next)),
-        planes: Planes { y, u, v },
+        answer: answer.map_err(u8::from),
+        planes,
     }
 }
 
+// Here, for records and in the other programs: key and inter entries are of two types, so that each arm has a call of its own.
 fn over_lists<const Y: usize, const U: usize, const V: usize, const N: usize>(
     task: Task,
     lists: Lists<N>,
     before: Planes<Y, U, V>,
-) -> Left<Y, U, V> {
-    let key = KeyLists {
-        modes: &lists.modes,
-        segments: &lists.segments,
-        flags: &lists.flags,
-    };
-    let inter = InterLists {
-        key,
-        references: &lists.references,
-        inter_modes: &lists.inter_modes,
-    };
+) -> Left<Planes<Y, U, V>> {
     match task.call.frames {
-        Frames::Key => over(task, key, before),
-        Frames::Inter => over(task, inter, before),
+        Frames::Key => over(task, lists.key(), before),
+        Frames::Inter => over(task, lists.inter(), before),
     }
 }
 
-// What a recorded call has for the four macroblocks of its picture.
+// What a recorded call has for the four macroblocks of its picture. Film, of other sizes, goes by `over_lists`: the check can't state a method
+// of a trait that has a const parameter, and on the trait itself three would be named at each impl and bound.
 trait Listed: Copy {
     fn read(rt: &impl Input) -> io::Result<Self>;
 
-    fn filter(self, task: Task, before: Picture) -> Left<1280, 352, 348>;
+    fn filter(self, task: Task, before: Samples) -> Left<Samples>;
 }
 
 impl Listed for Lists<4> {
@@ -141,47 +129,22 @@ impl Listed for Lists<4> {
         read_lists(rt)
     }
 
-    fn filter(self, task: Task, before: Picture) -> Left<1280, 352, 348> {
+    fn filter(self, task: Task, before: Samples) -> Left<Samples> {
         over_lists(task, self, before)
     }
 }
 
-impl Listed for Records {
+impl Listed for [MacroblockModes; 4] {
     fn read(rt: &impl Input) -> io::Result<Self> {
-        Records::read_four(rt)
+        read_records(rt)
     }
 
-    fn filter(self, task: Task, before: Picture) -> Left<1280, 352, 348> {
-        let key = KeyRecords { list: &self.list };
-        let inter = InterRecords { list: &self.list };
+    fn filter(self, task: Task, before: Samples) -> Left<Samples> {
+        let key = KeyRecords { list: &self };
         match task.call.frames {
             Frames::Key => over(task, key, before),
-            Frames::Inter => over(task, inter, before),
+            Frames::Inter => over(task, InterRecords { records: key }, before),
         }
-    }
-}
-
-// Every sample, also those outside the grid.
-fn is_left<const Y: usize, const U: usize, const V: usize>(
-    left: Left<Y, U, V>,
-    recorded: Recorded<(usize, usize)>,
-    after: Planes<Y, U, V>,
-) -> bool {
-    (left.answer.map_err(u8::from) == recorded.answer()) & (left.planes == after)
-}
-
-// Whether a record has its pictures, or none since nothing may change.
-#[derive(Clone, Copy)]
-enum Recording {
-    Planes,
-    NoPlanes,
-}
-
-// The pictures before and after a call.
-fn read_pictures(rt: &impl Input, recording: Recording) -> io::Result<[Picture; 2]> {
-    match recording {
-        Recording::Planes => Ok([read_planes(rt)?, read_planes(rt)?]),
-        Recording::NoPlanes => Ok([stripes(); 2]),
     }
 }
 
@@ -190,26 +153,26 @@ fn replay_call<L: Listed>(rt: &impl Input, call: Call, recording: Recording) -> 
     let task = read_task(rt, call)?;
     let listed = L::read(rt)?;
     let recorded = read_recorded(rt)?;
-    let [before, after] = read_pictures(rt, recording)?;
-    let left = listed.filter(task, before);
-    Ok(is_left(left, recorded, after))
+    let before: Samples = recording.read_planes(rt)?;
+    let after = recording.read_planes(rt)?;
+    Ok(listed.filter(task, before) == recorded_left(recorded, after))
 }
 
 // What the second of two calls answers and leaves.
-fn read_resumed(rt: &impl Input) -> io::Result<(Recorded<(usize, usize)>, Picture)> {
-    Ok((read_recorded(rt)?, read_planes(rt)?))
+fn read_resumed(rt: &impl Input) -> io::Result<Left<Samples>> {
+    Ok(recorded_left(read_recorded(rt)?, read_planes(rt)?))
 }
 
 // A halted call, which it marks, and the one that goes on where it ended, to the end of the grid.
 fn replay_halted(rt: &(impl Input + Print), call: Call) -> io::Result<bool> {
     let task = read_task(rt, call)?;
     let lists: Lists<4> = read_lists(rt)?;
-    let before: Picture = read_planes(rt)?;
+    let before: Samples = read_planes(rt)?;
     let halted = read_recorded(rt)?;
     let middle = read_planes(rt)?;
     let resumed = if_whole(read_resumed(rt))?;
     let first = over_lists(task, lists, before);
-    mark(rt, is_left(first, halted, middle))?;
+    mark(rt, first == recorded_left(halted, middle))?;
     let (_, start) = halted.value;
     let place = Place {
         start,
@@ -218,7 +181,7 @@ fn replay_halted(rt: &(impl Input + Print), call: Call) -> io::Result<bool> {
     };
     let rest = Task { place, ..task };
     let second = over_lists(rest, lists, first.planes);
-    Ok(resumed.is_some_and(|(recorded, after)| is_left(second, recorded, after)))
+    Ok(resumed == Some(second))
 }
 
 // A frame of recorded film: place, settings, the answer, lists, the planes before and after.
@@ -237,12 +200,10 @@ fn replay_film<const Y: usize, const U: usize, const V: usize, const N: usize>(
     let lists: Lists<N> = read_lists(rt)?;
     let before: Planes<Y, U, V> = read_planes(rt)?;
     let after = read_planes(rt)?;
-    let left = over_lists(task, lists, before);
-    Ok(is_left(left, recorded, after))
+    Ok(over_lists(task, lists, before) == recorded_left(recorded, after))
 }
 
-// Two lines, of key and of inter frames: the name of the call and what its records are.
-// What calls a closure has the `requires`. A trait in its place would need none, but an impl for each kind of record.
+// Two lines, of key and of inter frames: the name of the call and what its records are. The `requires` is that of `section`.
 fn both_sections<F: Fn(Call) -> io::Result<bool>>(
     rt: &(impl Input + Print),
     step: Step,
@@ -255,10 +216,7 @@ fn both_sections<F: Fn(Call) -> io::Result<bool>>(
     for frames in [Frames::Key, Frames::Inter] {
         let call = Call { step, frames };
         print!(rt; "{call}")?;
-        for _ in 0..begin_section(rt, records)? {
-            mark_record(rt, marks, replay(call))?;
-        }
-        println!(rt)?;
+        section(rt, records, marks, || replay(call))?;
     }
     Ok(())
 }
@@ -278,10 +236,10 @@ pub fn call_sections(rt: &(impl Input + Print), step: Step) -> io::Result<()> {
         |call| replay_halted(rt, call),
     )?;
     both_sections(rt, step, "_records", 1, |call| {
-        replay_call::<Records>(rt, call, Recording::Planes)
+        replay_call::<[MacroblockModes; 4]>(rt, call, Recording::Planes)
     })?;
     both_sections(rt, step, "_records, nothing changes", 1, |call| {
-        replay_call::<Records>(rt, call, Recording::NoPlanes)
+        replay_call::<[MacroblockModes; 4]>(rt, call, Recording::NoPlanes)
     })
 }
 

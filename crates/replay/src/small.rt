@@ -1,4 +1,5 @@
 // Numbers, limits, kernels, levels, coefficients and final rows. Each record is one call.
+use crate::sections::section;
 use arithmetic::limits::LoopFilterParams;
 use arithmetic::numbers::{clamp_s8, s2u, u2s};
 use calls::final_rows::final_rows;
@@ -12,23 +13,7 @@ use recording::input::{
     Recorded, read_array, read_flag, read_i8, read_i16, read_i32, read_place, read_recorded,
     read_refusal, read_settings, read_size, read_u8,
 };
-use recording::marks::{begin_section, mark_record};
 use std::io;
-
-// A line.
-// Each program has its own: what calls a closure has the `requires`, and a public function has none. A trait in its place would need none, but an impl for each kind of record.
-fn section<F: Fn() -> io::Result<bool>>(
-    rt: &(impl Input + Print),
-    name: &str,
-    replay: F,
-) -> io::Result<()>
-    requires { F.IsAlwaysCallable replay }
-{
-    for _ in 0..begin_section(rt, name)? {
-        mark_record(rt, 1, replay())?;
-    }
-    println!(rt)
-}
 
 fn replay_clamp(rt: &impl Input) -> io::Result<bool> {
     let clamped = clamp_s8(read_i32(rt)?);
@@ -59,10 +44,10 @@ fn replay_derive(rt: &impl Input) -> io::Result<bool> {
 }
 
 pub fn number_sections(rt: &(impl Input + Print)) -> io::Result<()> {
-    section(rt, "clamp_s8", || replay_clamp(rt))?;
-    section(rt, "u2s", || replay_u2s(rt))?;
-    section(rt, "s2u", || replay_s2u(rt))?;
-    section(rt, "derive", || replay_derive(rt))
+    section(rt, "clamp_s8", 1, || replay_clamp(rt))?;
+    section(rt, "u2s", 1, || replay_u2s(rt))?;
+    section(rt, "s2u", 1, || replay_s2u(rt))?;
+    section(rt, "derive", 1, || replay_derive(rt))
 }
 
 // The samples before and after a kernel's call.
@@ -107,19 +92,19 @@ fn read_edge_limits(rt: &impl Input) -> io::Result<EdgeLimits> {
 }
 
 pub fn kernel_sections(rt: &(impl Input + Print)) -> io::Result<()> {
-    section(rt, "common_adjust", || replay_adjust(rt))?;
-    section(rt, "simple_segment", || {
+    section(rt, "common_adjust", 1, || replay_adjust(rt))?;
+    section(rt, "simple_segment", 1, || {
         let edge = read_u8(rt)?;
         replay_kernel(rt, |samples, base| simple_segment(edge, samples, base))
     })?;
-    section(rt, "subblock_filter", || {
+    section(rt, "subblock_filter", 1, || {
         let limits = read_edge_limits(rt)?;
         replay_kernel(
             rt,
             |samples, base| normal_filter::<false>(limits, samples, base),
         )
     })?;
-    section(rt, "mb_filter", || {
+    section(rt, "mb_filter", 1, || {
         let limits = read_edge_limits(rt)?;
         replay_kernel(
             rt,
@@ -156,17 +141,17 @@ fn replay_final_rows(rt: &impl Input) -> io::Result<bool> {
 }
 
 pub fn level_sections(rt: &(impl Input + Print)) -> io::Result<()> {
-    section(rt, "calculate_mb_filter_level", || {
+    section(rt, "calculate_mb_filter_level", 1, || {
         let config = read_settings(rt)?;
         let [segment, mode]: [u8; 2] = read_array(rt)?;
         is_level(rt, calculate_mb_filter_level(config, segment, mode))
     })?;
-    section(rt, "calculate_mb_filter_level_inter", || {
+    section(rt, "calculate_mb_filter_level_inter", 1, || {
         let config = read_settings(rt)?;
         let [segment, reference, inter_mode, mode]: [u8; 4] = read_array(rt)?;
         let answer = calculate_mb_filter_level_inter(config, segment, reference, inter_mode, mode);
         is_level(rt, answer)
     })?;
-    section(rt, "mb_has_coeffs", || replay_coefficients(rt))?;
-    section(rt, "final_rows", || replay_final_rows(rt))
+    section(rt, "mb_has_coeffs", 1, || replay_coefficients(rt))?;
+    section(rt, "final_rows", 1, || replay_final_rows(rt))
 }

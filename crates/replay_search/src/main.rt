@@ -4,12 +4,14 @@
 mod search_input;
 mod searches;
 
-use crate::searches::{Frames, Recording, replay_search};
+use crate::searches::replay_search;
+use recording::kinds::{Frames, Recording};
 use recording::marks::{begin_section, end_recording, mark_record};
 use std::io;
 
 // A line. A record has four marks: both sums, and both searches.
-// Each program has its own: what calls a closure has the `requires`, and a public function has none. A trait in its place would need none, but an impl for each kind of record.
+// Each program has its own: what calls a closure has the `requires`, and a public function of a library has none. A trait in its place
+// would need none, but an impl for each kind of record.
 fn section<F: Fn() -> io::Result<bool>>(
     rt: &(impl Input + Print),
     name: &str,
@@ -24,25 +26,29 @@ fn section<F: Fn() -> io::Result<bool>>(
 }
 
 fn main(rt: HostRuntime) -> io::Result<()> {
-    section(
-        &rt,
-        "reconstruction_ssd, reconstruction_ssd_from, select_filter_params, select_filter_level",
-        || replay_search(&rt, Frames::Key, Recording::Planes),
-    )?;
-    section(
-        &rt,
-        "reconstruction_ssd, reconstruction_ssd_from, select_filter_params_inter, select_filter_level_inter",
-        || replay_search(&rt, Frames::Inter, Recording::Planes),
-    )?;
-    section(
-        &rt,
-        "reconstruction_ssd, reconstruction_ssd_from, select_filter_params, select_filter_level, nothing changes",
-        || replay_search(&rt, Frames::Key, Recording::NoPlanes),
-    )?;
-    section(
-        &rt,
-        "reconstruction_ssd, reconstruction_ssd_from, select_filter_params_inter, select_filter_level_inter, nothing changes",
-        || replay_search(&rt, Frames::Inter, Recording::NoPlanes),
-    )?;
+    for (name, frames, recording) in [
+        (
+            "reconstruction_ssd, reconstruction_ssd_from, select_filter_params, select_filter_level",
+            Frames::Key,
+            Recording::Planes,
+        ),
+        (
+            "reconstruction_ssd, reconstruction_ssd_from, select_filter_params_inter, select_filter_level_inter",
+            Frames::Inter,
+            Recording::Planes,
+        ),
+        (
+            "reconstruction_ssd, reconstruction_ssd_from, select_filter_params, select_filter_level, nothing changes",
+            Frames::Key,
+            Recording::NoPlanes,
+        ),
+        (
+            "reconstruction_ssd, reconstruction_ssd_from, select_filter_params_inter, select_filter_level_inter, nothing changes",
+            Frames::Inter,
+            Recording::NoPlanes,
+        ),
+    ] {
+        section(&rt, name, || replay_search(&rt, frames, recording))?;
+    }
     end_recording(&rt)
 }

@@ -2,9 +2,10 @@
 use levels::config::FrameFilterConfig;
 use planes::layout::PlaneLayout;
 use planes::picture::Picture;
-use recording::input::{Recorded, read_place, read_refusal, read_settings, read_size, read_u8};
+use recording::input::{Recorded, read_layout, read_refusal, read_settings, read_size, read_u8};
 use recording::picture::Planes;
 use search::answers::FilterParams;
+use search::candidates::Pair;
 use search::input::SearchInput;
 use std::io;
 use sums::source::SourcePlanes;
@@ -24,12 +25,11 @@ pub struct Task {
 }
 
 pub fn read_task(rt: &impl Input) -> io::Result<Task> {
-    let place = read_place(rt)?;
     Ok(Task {
-        layout: place.layout,
+        layout: read_layout(rt)?,
+        width: read_size(rt)?,
+        height: read_size(rt)?,
         config: read_settings(rt)?,
-        width: place.start,
-        height: place.allowance,
         y_stride: read_size(rt)?,
         uv_stride: read_size(rt)?,
     })
@@ -68,9 +68,12 @@ impl Task {
 // What a search answers: its refusal or its choice.
 pub fn read_choice(rt: &impl Input) -> io::Result<Recorded<FilterParams>> {
     let refusal = read_refusal(rt)?;
-    let value = FilterParams {
+    let pair = Pair {
         level: read_u8(rt)?,
         sharpness: read_u8(rt)?,
+    };
+    let value = FilterParams {
+        pair,
         count: read_size(rt)?,
     };
     Ok(Recorded { refusal, value })

@@ -4,27 +4,22 @@ ghost use Rattle.arithmetic.specs.Outcome.{outcome, number_of};
 ghost use Rattle.planes.specs.GridRefusals.{past_grid, grid_refusal_number};
 ghost use Rattle.planes.specs.Layout.{grid_of};
 ghost use Rattle.planes.specs.Pictures.{planes_in, planes_lent, SameLoans};
-ghost use Rattle.scratch.specs.Copies.{copy_row, copy_rows, copy_grid, copied_grid};
+ghost use Rattle.scratch.specs.Copies.{copy_rows, copy_grid, copied_grid};
 
 use planes::grid::GridRefusal;
 use planes::layout::PlaneLayout;
 use planes::picture::{Picture, PictureMut};
 
-// n samples from one place on in both planes, which have one stride.
-fn copy_row(source: &[u8], into: &mut [u8], from: usize, n: usize)
-    requires { (from + n ≤ length source.now) × (from + n ≤ length into.old) }
-    ensures { into.new ≡ copy_row source.now from n into.old }
-{
-    let end = from + n;
-    into[from..end].copy_from_slice(&source[from..end]);
-}
-
+// n rows of w samples in both planes, which have one stride.
 fn copy_rows(source: &[u8], into: &mut [u8], stride: usize, w: usize, n: usize)
     requires { ((n - 1) * stride + w ≤ length source.now) × ((n - 1) * stride + w ≤ length into.old) }
     ensures { into.new ≡ copy_rows source.now stride w n into.old }
 {
+    // Not `chunks` by the stride: the last would be shorter, and of what is written through them a proof knows only the length.
     for r in 0..n {
-        copy_row(source, into, r * stride, w);
+        let from = r * stride;
+        let end = from + w;
+        into[from..end].copy_from_slice(&source[from..end]);
     }
 }
 

@@ -1,11 +1,11 @@
 -- How a search ends: with the best candidate of all trials, left in the scratch planes.
-use mathlib.Core.Path.{◌≡◌, refl, sym, ap, subst, ◌∙◌}
+use mathlib.Core.Path.{◌≡◌, refl, sym, ap, ◌∙◌}
 use mathlib.Core.Bool.{Bool, true, false, cond}
 use Prim.Native.Nat.{ℕ, ◌^◌}
 use lib.Dec.{eqb, leb}
 use native.Mathlib.Omega.{arith}
 use borrow.Author.Tests.{eq-eqb, ne_eqb, eqb-true, eqb-false, lt-leb}
-use Rattle.arithmetic.specs.Outcome.{Outcome, gives, refuses}
+use Rattle.arithmetic.specs.Outcome.{gives, refuses}
 use Rattle.planes.specs.Steps.{steps}
 use Rattle.planes.specs.Planes.{Planes}
 use Rattle.calls.specs.Pass.{Pass}
@@ -14,7 +14,7 @@ use Rattle.planes.specs.GridRefusals.{past_grid}
 use Rattle.sums.specs.Bytes.{BytePlanes}
 use Rattle.scratch.specs.Copies.{copy_grid, copied_grid}
 use Rattle.search.specs.Candidates.{coarse}
-use Rattle.search.specs.Search.{SearchCall, candidate_planes, planes_of_candidate, score, base_sharpness, search, choice, any_too_large, search_refusal, unfiltered_answer, search_answer, scratch_after, Searched}
+use Rattle.search.specs.Search.{SearchCall, candidate_of, candidate_planes, planes_of_candidate, score, base_sharpness, search, choice, any_too_large, search_refusal, unfiltered_answer, search_answer, scratch_after, Searched}
 use Rattle.sums.specs.Answers.{search_refusal_number}
 use Rattle.sums.specs.declared.answers.SearchRefusal.{SearchRefusal}
 use Rattle.search.specs.Answers.{params_outcome}
@@ -42,13 +42,13 @@ module _ (W : Pass) (a : SearchCall W) where
         ∙ all-trials (score W a) (base_sharpness a.settings)
 
     pub ended : (t after : Planes) → Ready W a → Alike a.grid a.scratch t
-        → after ≡ copied_grid a.grid (planes_of_candidate W a (record { level = r.«level»; sharpness = r.«sharpness» })) t → Ended W a r after
+        → after ≡ copied_grid a.grid (planes_of_candidate W a (candidate_of r.«params».«pair»)) t → Ended W a r after
     unfolding choice
     ended t after ready al ea = record {
       best = ap chosen_by best-is;
       scratch =
-          candidate-made W a (record { level = r.«level»; sharpness = r.«sharpness» }) t after ready.planes (al.same ∙ ready.scratch) ea
-          ∙ ap (λ (f : Best). copy_grid a.grid (planes_of_candidate W a (record { level = f.«level»; sharpness = f.«sharpness» })) t) best-is ∙ al.over (planes_of_candidate W a (search W a).best);
+          candidate-made W a (candidate_of r.«params».«pair») t after ready.planes (al.same ∙ ready.scratch) ea
+          ∙ ap (λ (f : Best). copy_grid a.grid (planes_of_candidate W a (candidate_of f.«params».«pair»)) t) best-is ∙ al.over (planes_of_candidate W a (search W a).best);
     }
 
   -- no sum is too large where 1, 2, 3, 8 and 9 refuse nothing
@@ -83,7 +83,7 @@ module _ (W : Pass) (a : SearchCall W) where
 
   -- a search that ended
   pub chosen : search_refusal W a ≡ 0 → (r : Best) (after : Planes) → Ended W a r after
-      → Searched W a (params_outcome (Ok (record { «level» = r.«level»; «sharpness» = r.«sharpness»; «count» = r.«count» }))) after
+      → Searched W a (params_outcome (Ok r.«params»)) after
   unfolding search_answer scratch_after
   chosen acc r after e =
       let n : eqb (search_refusal W a) 0 ≡ true = eq-eqb (search_refusal W a) 0 acc in

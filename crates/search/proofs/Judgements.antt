@@ -3,9 +3,8 @@ use mathlib.Core.Path.{◌≡◌, refl, sym, ap, ◌∙◌}
 use mathlib.Core.Bool.{Bool, true, false, cond, ◌||◌}
 use Prim.Native.Nat.{ℕ}
 use native.Mathlib.Omega.{arith}
-use lib.Dec.{eqb}
-use borrow.Author.Tests.{eq-eqb, ne_eqb}
-use Rattle.arithmetic.specs.Outcome.{gives, refuses}
+use borrow.Author.Tests.{ne_eqb}
+use Rattle.arithmetic.specs.Outcome.{refuses}
 use Rattle.planes.specs.Planes.{Grid, macroblocks}
 use Rattle.planes.specs.GridRefusals.{zero_grid, past_grid}
 use Rattle.calls.specs.Pass.{Pass}

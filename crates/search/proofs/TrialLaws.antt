@@ -10,22 +10,23 @@ use borrow.Author.Tests.{lt-ltb, le-ltb}
 use Rattle.planes.specs.Steps.{steps}
 use Rattle.planes.proofs.Steps.{steps-add}
 use Rattle.search.specs.Candidates.{Candidate, Standing, fold, keep, upward, coarse_levels, near, above_zero, consider, at_base, unfiltered, coarse, other_level, refined, other_sharpness, searched}
-use Rattle.search.specs.Private.SearchCode.{coarse_at, near_trial, sharpness_trial, trial_of, taken, with_winner, tried, after_trial, start_at}
+use Rattle.search.specs.Search.{candidate_of}
+use Rattle.search.specs.Private.SearchCode.{pair_of, coarse_at, near_trial, sharpness_trial, trial_of, taken, with_winner, tried, after_trial, start_at}
 use Rattle.scratch.proofs.CopyLaws.{steps_next}
 use Rattle.search.specs.declared.trials.Best.{Best}
-use Rattle.search.specs.declared.trials.Trial.{Trial}
+use Rattle.search.specs.declared.candidates.Pair.{Pair}
 use Rattle.std.specs.Prelude.{Option, Some, None}
 
 module _ (score : Candidate → ℕ) (f : Best) where
-  pub tried-skip : (t : Option Trial) → t ≡ None → f ≡ tried score t f
+  pub tried-skip : (t : Option Pair) → t ≡ None → f ≡ tried score t f
   unfolding tried
   tried-skip t e = rw e refl
 
-  pub tried-take : (t : Option Trial) (x : Trial) (r : Best) (n : ℕ) → t ≡ Some x → n ≡ score (record { level = x.«level»; sharpness = x.«sharpness» }) → r ≡ taken f x.«level» x.«sharpness» n → r ≡ tried score t f
+  pub tried-take : (t : Option Pair) (x : Pair) (r : Best) (n : ℕ) → t ≡ Some x → n ≡ score (candidate_of x) → r ≡ taken f x n → r ≡ tried score t f
   unfolding tried
   tried-take t x r n e s h = rw (e, ← s) h
 
-winner-is : (i : ℕ) (f : Best) → ltb i 16 ≡ true → with_winner i f ≡ record { «level» = f.«level»; «sharpness» = f.«sharpness»; «sum» = f.«sum»; «count» = f.«count»; «winner» = f.«level» }
+winner-is : (i : ℕ) (f : Best) → ltb i 16 ≡ true → with_winner i f ≡ record { «params» = f.«params»; «sum» = f.«sum»; «winner» = f.«params».«pair».«level» }
 unfolding with_winner
 winner-is i f e = rw e
 
@@ -40,55 +41,55 @@ module _ (score : Candidate → ℕ) (base : ℕ) where
   unfolding steps
   trials-none s = refl
 
-  pub trials-more : (i : ℕ) (s f next r : Best) (t : Option Trial) (other : Candidate → ℕ) → other ≡ score → f ≡ steps (after_trial score base) 0 i s → t ≡ trial_of base i f → next ≡ tried other t f → r ≡ with_winner i next
+  pub trials-more : (i : ℕ) (s f next r : Best) (t : Option Pair) (other : Candidate → ℕ) → other ≡ score → f ≡ steps (after_trial score base) 0 i s → t ≡ trial_of base i f → next ≡ tried other t f → r ≡ with_winner i next
       → r ≡ steps (after_trial score base) 0 (i + 1) s
   unfolding after_trial
   trials-more i s f next r t other es ef et en er =
       er ∙ ap (with_winner i) (en ∙ (λ k. tried (es k) (et k) f)) ∙ ap (after_trial score base i) ef ∙ sym (steps_next (after_trial score base) i s)
 
-  taken-count : (f : Best) (l k n : ℕ) → (taken f l k n).«count» ≤ f.«count» + 1
+  taken-count : (f : Best) (p : Pair) (n : ℕ) → (taken f p n).«params».«count» ≤ f.«params».«count» + 1
   unfolding taken
-  taken-count f l k n = by (ltb n f.«sum») (eqb l 0)
+  taken-count f p n = by (ltb n f.«sum») (eqb p.«level» 0)
     where
       by : (a b : Bool) → (cond {A = Best} a
-          (record { «level» = l; «sharpness» = k; «sum» = n; «count» = cond b 0 1 + f.«count»; «winner» = f.«winner» })
-          (record { «level» = f.«level»; «sharpness» = f.«sharpness»; «sum» = f.«sum»; «count» = cond b 0 1 + f.«count»; «winner» = f.«winner» })).«count» ≤ f.«count» + 1
+          (record { «params» = record { «pair» = p; «count» = cond b 0 1 + f.«params».«count» }; «sum» = n; «winner» = f.«winner» })
+          (record { «params» = record { «pair» = f.«params».«pair»; «count» = cond b 0 1 + f.«params».«count» }; «sum» = f.«sum»; «winner» = f.«winner» })).«params».«count» ≤ f.«params».«count» + 1
       by true true = omega arith
       by true false = omega arith
       by false true = omega arith
       by false false = omega arith
 
-  tried-count : (t : Option Trial) (f : Best) → (tried score t f).«count» ≤ f.«count» + 1
+  tried-count : (t : Option Pair) (f : Best) → (tried score t f).«params».«count» ≤ f.«params».«count» + 1
   unfolding tried
   tried-count None f = omega arith
-  tried-count (Some t) f = taken-count f t.«level» t.«sharpness» (score (record { level = t.«level»; sharpness = t.«sharpness» }))
+  tried-count (Some p) f = taken-count f p (score (candidate_of p))
 
-  winner-count : (i : ℕ) (f : Best) → (with_winner i f).«count» ≡ f.«count»
+  winner-count : (i : ℕ) (f : Best) → (with_winner i f).«params».«count» ≡ f.«params».«count»
   unfolding with_winner
   winner-count i f = by (ltb i 16)
     where
-      by : (b : Bool) → (cond {A = Best} b (record { «level» = f.«level»; «sharpness» = f.«sharpness»; «sum» = f.«sum»; «count» = f.«count»; «winner» = f.«level» }) f).«count» ≡ f.«count»
+      by : (b : Bool) → (cond {A = Best} b (record { «params» = f.«params»; «sum» = f.«sum»; «winner» = f.«params».«pair».«level» }) f).«params».«count» ≡ f.«params».«count»
       by true = refl
       by false = refl
 
-  pub count-more : (i : ℕ) (f next r : Best) (t : Option Trial) (other : Candidate → ℕ) → other ≡ score → f.«count» ≤ i → next ≡ tried other t f → r ≡ with_winner i next → r.«count» ≤ i + 1
+  pub count-more : (i : ℕ) (f next r : Best) (t : Option Pair) (other : Candidate → ℕ) → other ≡ score → f.«params».«count» ≤ i → next ≡ tried other t f → r ≡ with_winner i next → r.«params».«count» ≤ i + 1
   count-more i f next r t other es h en er =
-      omega (arith, ap (λ (z : Best). z.«count») er ∙ winner-count i next, ap (λ (z : Best). z.«count») (en ∙ (λ k. tried (es k) t f)), tried-count t f)
+      omega (arith, ap (λ (z : Best). z.«params».«count») er ∙ winner-count i next, ap (λ (z : Best). z.«params».«count») (en ∙ (λ k. tried (es k) t f)), tried-count t f)
 
 -- ---- the fold that they are
 
 module _ (score : Candidate → ℕ) (base : ℕ) where
   -- what the loop holds of a standing
   abbrev pub stand : (winner : ℕ) → Standing → Best
-  stand w s = record { «level» = s.best.level; «sharpness» = s.best.sharpness; «sum» = s.sum; «count» = above_zero s.scored; «winner» = w }
+  stand w s = record { «params» = record { «pair» = pair_of s.best; «count» = above_zero s.scored }; «sum» = s.sum; «winner» = w }
 
-  taken_is : (w : ℕ) (s : Standing) (c : Candidate) → taken (stand w s) c.level c.sharpness (score c) ≡ stand w (consider score base s c)
+  taken_is : (w : ℕ) (s : Standing) (c : Candidate) → taken (stand w s) (pair_of c) (score c) ≡ stand w (consider score base s c)
   unfolding taken consider above_zero
   taken_is w s c = by (ltb (score c) s.sum)
     where
       by : (b : Bool) → cond b
-          (record { «level» = c.level; «sharpness» = c.sharpness; «sum» = score c; «count» = cond (eqb c.level 0) 0 1 + above_zero s.scored; «winner» = w })
-          (record { «level» = s.best.level; «sharpness» = s.best.sharpness; «sum» = s.sum; «count» = cond (eqb c.level 0) 0 1 + above_zero s.scored; «winner» = w })
+          (record { «params» = record { «pair» = pair_of c; «count» = cond (eqb c.level 0) 0 1 + above_zero s.scored }; «sum» = score c; «winner» = w })
+          (record { «params» = record { «pair» = pair_of s.best; «count» = cond (eqb c.level 0) 0 1 + above_zero s.scored }; «sum» = s.sum; «winner» = w })
           ≡ stand w (record { best = cond b c s.best; sum = cond b (score c) s.sum; scored = c ∷ s.scored })
       by true = refl
       by false = refl

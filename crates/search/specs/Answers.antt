@@ -9,7 +9,7 @@ use Rattle.search.specs.declared.answers.FilterLevel.{FilterLevel}
 
 -- `select_filter_params`: the pair and the count, or the number of the refusal
 abbrev pub params_outcome : Result FilterParams SearchRefusal → Outcome Choice
-params_outcome (Ok p) = gives (record { level = p.«level»; sharpness = p.«sharpness»; count = p.«count» })
+params_outcome (Ok p) = gives (record { level = p.«pair».«level»; sharpness = p.«pair».«sharpness»; count = p.«count» })
 params_outcome (Err r) = refuses (search_refusal_number r)
 
 -- `select_filter_level`: the level and the count, or the number of the refusal

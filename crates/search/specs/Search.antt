@@ -16,6 +16,7 @@ use Rattle.sums.specs.SourceRecord.{source_in}
 use Rattle.scratch.specs.Copies.{copy_grid}
 use Rattle.search.specs.Candidates.{Candidate, Standing, above_zero, searched}
 use Rattle.search.specs.declared.input.SearchInput.{SearchInput}
+use Rattle.search.specs.declared.candidates.Pair.{Pair}
 
 -- the arguments of one call
 pub record SearchCall (W : Pass) : Type 0 where
@@ -37,6 +38,10 @@ inter_search layout settings l p t s = record { grid = grid_of layout; settings 
 abbrev pub search_of : (W : Pass) → W.Carried → SearchInput → (scratch : Planes) → SearchCall W
 search_of W carried a t =
     record { grid = grid_of a.«layout»; settings = a.«config»; carried = carried; reconstruction = planes_in a.«picture»; scratch = t; source = source_in a.«source» }
+
+-- the candidate that a pair names
+abbrev pub candidate_of : Pair → Candidate
+candidate_of p = record { level = p.«level»; sharpness = p.«sharpness» }
 
 -- the settings with a candidate's level and sharpness
 unfoldable pub settings_at : FrameFilterConfig → Candidate → FrameFilterConfig

@@ -3,7 +3,7 @@ ghost use Rattle.std.specs.Prelude.{◌≡◌};
 ghost use Rattle.planes.specs.Layout.{grid_of};
 ghost use Rattle.planes.specs.Pictures.{planes_in, planes_lent, SameLoans};
 ghost use Rattle.scratch.specs.Copies.{copied_grid};
-ghost use Rattle.search.specs.Search.{settings_at, candidate_planes, base_sharpness};
+ghost use Rattle.search.specs.Search.{candidate_of, settings_at, candidate_planes, base_sharpness};
 
 use crate::input::SearchInput;
 use frame::pass::filter_frame;
@@ -11,6 +11,13 @@ use judge::entries::Entries;
 use levels::config::FrameFilterConfig;
 use planes::picture::PictureMut;
 use scratch::copies::copy_grid;
+
+// What a search tries, and what it chooses.
+#[derive(Clone, Copy, Debug, Default, PartialEq, Eq)]
+pub struct Pair {
+    pub level: u8,
+    pub sharpness: u8,
+}
 
 const HIGHEST_SHARPNESS: u8 = 7;
 
@@ -24,40 +31,38 @@ pub fn base_sharpness(config: FrameFilterConfig) -> u8
 
 // The settings with a candidate's level and sharpness.
 #[tactic(auto, unfolding(crate::specs::Search::settings_at))]
-fn settings_at(config: FrameFilterConfig, level: u8, sharpness: u8) -> FrameFilterConfig
-    ensures { result ≡ settings_at config (record { level = level; sharpness = sharpness }) }
+fn settings_at(config: FrameFilterConfig, pair: Pair) -> FrameFilterConfig
+    ensures { result ≡ settings_at config (candidate_of pair) }
 {
     FrameFilterConfig {
-        loop_filter_level: level,
-        sharpness_level: sharpness,
+        loop_filter_level: pair.level,
+        sharpness_level: pair.sharpness,
         ..config
     }
 }
 
 // The candidate's planes in the grid of the scratch planes: the unfiltered copy, and but for level 0 one whole pass. Where 1, 2 or 3 holds of planes or scratch planes, these are left alone.
-// Entries are apart from the input, which is one type for both searches, and the scratch planes from both: they are written.
+// Entries go apart (see SearchInput), and so do the scratch planes, which are written.
 pub fn make_candidate<E: Entries>(
     input: SearchInput<'_>,
     entries: E,
     scratch: &mut PictureMut<'_>,
-    level: u8,
-    sharpness: u8,
+    pair: Pair,
 )
     ensures loans { SameLoans scratch.old scratch.new }
     ensures made { planes_lent scratch.new
         ≡ copied_grid (grid_of input.entry.layout)
         (candidate_planes E.pass (grid_of input.entry.layout) input.entry.config (E.carried entries)
-        (planes_in input.entry.picture)
-        (record { level = level; sharpness = sharpness }))
+        (planes_in input.entry.picture) (candidate_of pair))
         (planes_lent scratch.old) }
 {
     let Ok(()) = copy_grid(input.picture, scratch, input.layout) else {
         return;
     };
-    if level == 0 {
+    if pair.level == 0 {
         return;
     }
-    let config = settings_at(input.config, level, sharpness);
+    let config = settings_at(input.config, pair);
     // A pass that is refused leaves the copy.
     let _ = filter_frame(scratch, input.layout, entries, config, 0, usize::MAX);
 }

@@ -10,9 +10,9 @@ ghost use Rattle.search.specs.Private.SearchCode.{Tried, AllTried, Ended};
 ghost use Rattle.search.specs.Private.Ready.{Ready};
 
 use crate::answers::{FilterLevel, FilterParams};
-use crate::candidates::{base_sharpness, make_candidate};
+use crate::candidates::{Pair, base_sharpness, make_candidate};
 use crate::input::SearchInput;
-use crate::trials::{Best, TRIALS, Trial, next_trial, note_winner, take};
+use crate::trials::{Best, TRIALS, next_trial, note_winner, take};
 use crate::unfiltered::unfiltered_sum;
 use judge::entries::Entries;
 use planes::picture::PictureMut;
@@ -26,26 +26,26 @@ fn try_candidate<E: Entries>(
     entries: E,
     scratch: &mut PictureMut<'_>,
     best: Best,
-    trial: Option<Trial>,
+    trial: Option<Pair>,
 ) -> Best
     requires ready { Ready E.pass (search_of E.pass (E.carried entries) input (planes_lent scratch.old)) }
-    requires count_bound { best.«count» < 100 }
+    requires count_bound { best.«params».«count» < 100 }
     ensures loans { SameLoans scratch.old scratch.new }
     ensures tried { Tried E.pass (search_of E.pass (E.carried entries) input.entry (planes_lent scratch.old))
         trial best result (planes_lent scratch.new) }
 {
-    let Some(trial) = trial else {
+    let Some(pair) = trial else {
         return best;
     };
-    make_candidate(input, entries, scratch, trial.level, trial.sharpness);
+    make_candidate(input, entries, scratch, pair);
     let made = scratch.read();
     let Ok(sum) = reconstruction_ssd(made, input.layout, input.source) else {
         return best;
     };
-    take(best, trial, sum)
+    take(best, pair, sum)
 }
 
-// The trials, one after the other.
+// The trials, one after the other; `next_trial` says in which order.
 fn search_trials<E: Entries>(
     input: SearchInput<'_>,
     entries: E,
@@ -54,7 +54,7 @@ fn search_trials<E: Entries>(
     start: Best,
 ) -> Best
     requires ready { Ready E.pass (search_of E.pass (E.carried entries) input (planes_lent scratch.old)) }
-    requires count_value { start.«count» ≡ 0 }
+    requires count_value { start.«params».«count» ≡ 0 }
     ensures loans { SameLoans scratch.old scratch.new }
     ensures tried { AllTried E.pass (search_of E.pass (E.carried entries) input.entry (planes_lent scratch.old))
         base start result (planes_lent scratch.new) }
@@ -82,15 +82,17 @@ fn search_all<E: Entries>(
         result (planes_lent scratch.new) }
 {
     let base = base_sharpness(input.config);
-    let start = Best {
+    let pair = Pair {
         level: 0,
         sharpness: base,
+    };
+    let start = Best {
+        params: FilterParams { pair, count: 0 },
         sum,
-        count: 0,
         winner: 0,
     };
     let best = search_trials(input, entries, scratch, base, start);
-    make_candidate(input, entries, scratch, best.level, best.sharpness);
+    make_candidate(input, entries, scratch, best.params.pair);
     best
 }
 
@@ -107,11 +109,7 @@ pub fn select_filter_params<E: Entries>(
     let lent = scratch.read();
     let sum = unfiltered_sum(input, entries, lent)?;
     let best = search_all(input, entries, scratch, sum);
-    Ok(FilterParams {
-        level: best.level,
-        sharpness: best.sharpness,
-        count: best.count,
-    })
+    Ok(best.params)
 }
 
 // The level of the pair that the search chooses, and the count; or a refusal. The same without the sharpness.
@@ -126,7 +124,7 @@ pub fn select_filter_level<E: Entries>(
 {
     let params = select_filter_params(input, entries, scratch)?;
     Ok(FilterLevel {
-        level: params.level,
+        level: params.pair.level,
         count: params.count,
     })
 }

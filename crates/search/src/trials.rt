@@ -3,6 +3,9 @@ ghost use Rattle.std.specs.Prelude.{◌≡◌, ◌+◌, ◌<◌, cond, eqb};
 ghost use Rattle.search.specs.Candidates.{near};
 ghost use Rattle.search.specs.Private.SearchCode.{coarse_at, near_trial, sharpness_trial, trial_of, taken, with_winner};
 
+use crate::answers::FilterParams;
+use crate::candidates::Pair;
+
 const HIGHEST_LEVEL: usize = 63;
 
 // Trials 0 to 15 are the coarse levels.
@@ -14,22 +17,12 @@ const LEVELS_END: usize = 80;
 // Trials 80 to 87 are the sharpness values 0 to 7.
 pub(crate) const TRIALS: usize = 88;
 
-// The best candidate so far, its sum, the number of candidates scored at a level above 0, and the winner of the coarse levels: more than
-// FilterParams, since these decide the next trials.
+// What the search would answer so far, its sum, and the winner of the coarse levels.
 #[derive(Clone, Copy, Debug, PartialEq, Eq)]
 pub struct Best {
-    pub level: u8,
-    pub sharpness: u8,
+    pub params: FilterParams,
     pub sum: u64,
-    pub count: usize,
     pub winner: u8,
-}
-
-// The candidate of a trial.
-#[derive(Clone, Copy, Debug, PartialEq, Eq)]
-pub struct Trial {
-    pub level: u8,
-    pub sharpness: u8,
 }
 
 // 4, 8 to 60, 63.
@@ -49,15 +42,16 @@ fn is_near(winner: u8, level: u8) -> bool
 }
 
 // Trial i: a coarse level; a level near the winner but the best of the moment; another sharpness unless the best level is 0. None is passed over.
-// One loop over the numbers of all trials: of three, each would need the invariant of the count and of what is lent.
+// One loop over the numbers of all trials: of three loops each would be a function, with the same five parameters, four clauses and
+// invariant, and an enum of the phases would be one more type, where here a number chooses between three lines.
 #[tactic(auto, unfolding(crate::specs::Private::SearchCode::trial_of))]
-pub(crate) fn next_trial(base: u8, i: usize, best: Best) -> Option<Trial>
+pub(crate) fn next_trial(base: u8, i: usize, best: Best) -> Option<Pair>
     requires { i < 88 }
     ensures { result ≡ trial_of base i best }
 {
     if i < COARSE_END {
         let level = coarse_level(i);
-        return Some(Trial {
+        return Some(Pair {
             level,
             sharpness: base,
         });
@@ -71,28 +65,23 @@ pub(crate) fn next_trial(base: u8, i: usize, best: Best) -> Option<Trial>
 }
 
 #[tactic(auto, unfolding(crate::specs::Private::SearchCode::near_trial))]
-fn near_trial(base: u8, level: u8, best: Best) -> Option<Trial>
+fn near_trial(base: u8, level: u8, best: Best) -> Option<Pair>
     ensures { result ≡ near_trial base level best }
 {
-    let close = is_near(best.winner, level);
-    if !close | (level == best.level) {
-        return None;
-    }
-    Some(Trial {
+    let pair = Pair {
         level,
         sharpness: base,
-    })
+    };
+    let close = is_near(best.winner, level);
+    (close & (level != best.params.pair.level)).then_some(pair)
 }
 
 #[tactic(auto, unfolding(crate::specs::Private::SearchCode::sharpness_trial))]
-fn sharpness_trial(base: u8, sharpness: u8, best: Best) -> Option<Trial>
+fn sharpness_trial(base: u8, sharpness: u8, best: Best) -> Option<Pair>
     ensures { result ≡ sharpness_trial base sharpness best }
 {
-    let level = best.level;
-    if (level == 0) | (sharpness == base) {
-        return None;
-    }
-    Some(Trial { level, sharpness })
+    let level = best.params.pair.level;
+    ((level != 0) & (sharpness != base)).then_some(Pair { level, sharpness })
 }
 
 // One more, of a level above 0.
@@ -105,21 +94,23 @@ fn counted(level: u8, count: usize) -> usize
 
 // Only a strictly smaller sum replaces.
 #[tactic(auto, unfolding(crate::specs::Private::SearchCode::taken))]
-pub(crate) fn take(best: Best, trial: Trial, sum: u64) -> Best
-    requires { best.«count» < 100 }
-    ensures { result ≡ taken best trial.«level» trial.«sharpness» sum }
+pub(crate) fn take(best: Best, pair: Pair, sum: u64) -> Best
+    requires { best.«params».«count» < 100 }
+    ensures { result ≡ taken best pair sum }
 {
-    let count = counted(trial.level, best.count);
+    let count = counted(pair.level, best.params.count);
     if sum < best.sum {
         return Best {
-            level: trial.level,
-            sharpness: trial.sharpness,
+            params: FilterParams { pair, count },
             sum,
-            count,
             ..best
         };
     }
-    Best { count, ..best }
+    let params = FilterParams {
+        count,
+        ..best.params
+    };
+    Best { params, ..best }
 }
 
 // The winner is the best of the coarse levels, whose trials come first.
@@ -129,7 +120,7 @@ pub(crate) fn note_winner(i: usize, best: Best) -> Best
 {
     if i < COARSE_END {
         return Best {
-            winner: best.level,
+            winner: best.params.pair.level,
             ..best
         };
     }

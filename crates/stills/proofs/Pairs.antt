@@ -15,8 +15,9 @@ use Rattle.sums.specs.declared.answers.SearchRefusal.{SearchRefusal}
 use Rattle.scratch.specs.Copies.{copy_grid, copied_grid}
 use Rattle.scratch.proofs.CopyLaws.{steps_next}
 use Rattle.search.specs.Candidates.{Candidate, Standing, consider, unfiltered}
-use Rattle.search.specs.Search.{SearchCall, planes_of_candidate, score, base_sharpness, search_refusal, unfiltered_answer}
+use Rattle.search.specs.Search.{SearchCall, candidate_of, planes_of_candidate, score, base_sharpness, search_refusal, unfiltered_answer}
 use Rattle.search.specs.Private.Ready.{Ready}
+use Rattle.search.specs.Private.SearchCode.{pair_of}
 use Rattle.search.proofs.Endings.{zero-score, not-started}
 use Rattle.search.proofs.Scores.{candidate-made}
 use Rattle.stills.specs.Answers.{full_outcome}
@@ -26,24 +27,24 @@ use Rattle.std.specs.Prelude.{Ok, Err}
 use Rattle.stills.specs.declared.answers.Best.{Best}
 
 module _ (W : Pass) (a : SearchCall W) where
-  taken_is : (s : Standing) (c : Candidate) → taken (best_of s) c.level c.sharpness (score W a c) ≡ best_of (consider (score W a) (base_sharpness a.settings) s c)
+  taken_is : (s : Standing) (c : Candidate) → taken (best_of s) (pair_of c) (score W a c) ≡ best_of (consider (score W a) (base_sharpness a.settings) s c)
   unfolding taken consider
   taken_is s c = by (ltb (score W a c) s.sum)
     where
-      by : (b : Bool) → cond b (record { «level» = c.level; «sharpness» = c.sharpness; «sum» = score W a c }) (best_of s)
+      by : (b : Bool) → cond b (record { «pair» = pair_of c; «sum» = score W a c }) (best_of s)
           ≡ best_of (record { best = cond b c s.best; sum = cond b (score W a c) s.sum; scored = c ∷ s.scored })
       by true = refl
       by false = refl
 
-  pub pair-taken : (i : ℕ) (b r : Best) (n : ℕ) → r ≡ taken b (pair_at i).level (pair_at i).sharpness n → n ≡ score W a (pair_at i)
-      → r ≡ taken b (pair_at i).level (pair_at i).sharpness (score W a (pair_at i))
-  pair-taken i b r n e h = e ∙ ap (taken b (pair_at i).level (pair_at i).sharpness) h
+  pub pair-taken : (i : ℕ) (b r : Best) (n : ℕ) → r ≡ taken b (pair_of (pair_at i)) n → n ≡ score W a (pair_at i)
+      → r ≡ taken b (pair_of (pair_at i)) (score W a (pair_at i))
+  pair-taken i b r n e h = e ∙ ap (taken b (pair_of (pair_at i))) h
 
   pub pairs-more : (i : ℕ) (b r : Best) (other : Candidate → ℕ) → other ≡ score W a → b ≡ best_of (after_pairs W a i)
-      → r ≡ taken b (pair_at i).level (pair_at i).sharpness (other (pair_at i)) → r ≡ best_of (after_pairs W a (i + 1))
+      → r ≡ taken b (pair_of (pair_at i)) (other (pair_at i)) → r ≡ best_of (after_pairs W a (i + 1))
   unfolding after_pairs
   pairs-more i b r other eo eb er =
-      er ∙ (λ k. taken (eb k) (pair_at i).level (pair_at i).sharpness (eo k (pair_at i)))
+      er ∙ (λ k. taken (eb k) (pair_of (pair_at i)) (eo k (pair_at i)))
       ∙ taken_is (after_pairs W a i) (pair_at i)
       ∙ ap best_of (sym (steps_next (λ i s. consider (score W a) (base_sharpness a.settings) s (pair_at i)) i (unfiltered (score W a) (base_sharpness a.settings))))
 
@@ -53,17 +54,17 @@ module _ (W : Pass) (a : SearchCall W) where
 
   -- before the first pair, unfiltered stands
   pub pairs-none : (base sum : ℕ) → base ≡ base_sharpness a.settings → sum ≡ error_sum a.grid a.reconstruction a.source
-      → record { «level» = 0; «sharpness» = base; «sum» = sum } ≡ best_of (after_pairs W a 0)
+      → record { «pair» = record { «level» = 0; «sharpness» = base }; «sum» = sum } ≡ best_of (after_pairs W a 0)
   unfolding after_pairs steps unfiltered
-  pairs-none base sum eb es = λ k. record { «level» = 0; «sharpness» = eb k; «sum» = (es ∙ sym (zero-score W a (base_sharpness a.settings))) k }
+  pairs-none base sum eb es = λ k. record { «pair» = record { «level» = 0; «sharpness» = eb k }; «sum» = (es ∙ sym (zero-score W a (base_sharpness a.settings))) k }
 
   pub ended : (r : Best) (t after : Planes) → Ready W a → AllTried W a r t
-      → after ≡ copied_grid a.grid (planes_of_candidate W a (record { level = r.«level»; sharpness = r.«sharpness» })) t → Ended W a r after
+      → after ≡ copied_grid a.grid (planes_of_candidate W a (candidate_of r.«pair»)) t → Ended W a r after
   ended r t after ready h e = record {
     best = h.best;
     scratch =
-        candidate-made W a (record { level = r.«level»; sharpness = r.«sharpness» }) t after ready.planes (h.scratch.same ∙ ready.scratch) e
-        ∙ ap (λ (f : Best). copy_grid a.grid (planes_of_candidate W a (record { level = f.«level»; sharpness = f.«sharpness» })) t) h.best
+        candidate-made W a (candidate_of r.«pair») t after ready.planes (h.scratch.same ∙ ready.scratch) e
+        ∙ ap (λ (f : Best). copy_grid a.grid (planes_of_candidate W a (candidate_of f.«pair»)) t) h.best
         ∙ h.scratch.over (planes_of_candidate W a (full_search W a).best);
   }
 
@@ -71,7 +72,7 @@ module _ (W : Pass) (a : SearchCall W) where
   unfolding full_answer scratch_after_full full_choice
   chosen accepted r after h =
       let n : eqb (search_refusal W a) 0 ≡ true = eq-eqb (search_refusal W a) 0 accepted in
-      record { answer = rw n (ap (λ (b : Best). gives (record { level = b.«level»; sharpness = b.«sharpness»; sum = b.«sum» })) h.best); scratch = rw n h.scratch }
+      record { answer = rw n (ap (λ (b : Best). gives (record { level = b.«pair».«level»; sharpness = b.«pair».«sharpness»; sum = b.«sum» })) h.best); scratch = rw n h.scratch }
 
   pub refused : (w : SearchRefusal) (after : Planes) → refuses (search_refusal_number w) ≡ unfiltered_answer W a → after ≡ a.scratch → FullSearched W a (full_outcome (Err w)) after
   unfolding full_answer scratch_after_full

@@ -8,5 +8,5 @@ use Rattle.stills.specs.declared.answers.Best.{Best}
 
 -- the pair and its sum, or the number of the refusal
 abbrev pub full_outcome : Result Best SearchRefusal → Outcome FullChoice
-full_outcome (Ok b) = gives (record { level = b.«level»; sharpness = b.«sharpness»; sum = b.«sum» })
+full_outcome (Ok b) = gives (record { level = b.«pair».«level»; sharpness = b.«pair».«sharpness»; sum = b.«sum» })
 full_outcome (Err r) = refuses (search_refusal_number r)

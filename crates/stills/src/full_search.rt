@@ -13,7 +13,7 @@ ghost use Rattle.stills.specs.Private.FullCode.{taken, Tried, Starts, AllTried, 
 use crate::answers::Best;
 use judge::entries::Entries;
 use planes::picture::PictureMut;
-use search::candidates::{base_sharpness, make_candidate};
+use search::candidates::{Pair, base_sharpness, make_candidate};
 use search::input::SearchInput;
 use search::unfiltered::unfiltered_sum;
 use sums::answers::SearchRefusal;
@@ -22,25 +22,22 @@ use sums::sums::reconstruction_ssd;
 // The sharpness values 0 to 7.
 const SHARPNESS_VALUES: usize = 8;
 
-// The levels 1 to 63 with the sharpness values 0 to 7.
+// The levels 1 to 63 with the sharpness values 0 to 7. By one number: a loop of levels and one of sharpness values would be two functions with
+// the same clauses.
 const PAIRS: usize = 504;
 
 // Only a strictly smaller sum replaces.
 #[tactic(auto, unfolding(crate::specs::Private::FullCode::taken))]
-fn take(best: Best, level: u8, sharpness: u8, sum: u64) -> Best
-    ensures { result ≡ taken best level sharpness sum }
+fn take(best: Best, pair: Pair, sum: u64) -> Best
+    ensures { result ≡ taken best pair sum }
 {
     if sum < best.sum {
-        return Best {
-            level,
-            sharpness,
-            sum,
-        };
+        return Best { pair, sum };
     }
     best
 }
 
-// Pair i is made in the scratch planes, and taken if it is better. What it takes goes apart, as in the other search, and Ready is a clause.
+// Pair i is made in the scratch planes, and taken if it is better. Ready is a clause, as in the other search.
 fn try_pair<E: Entries>(
     input: SearchInput<'_>,
     entries: E,
@@ -54,14 +51,16 @@ fn try_pair<E: Entries>(
     ensures tried { Tried E.pass (search_of E.pass (E.carried entries) input.entry (planes_lent scratch.old))
         i best result (planes_lent scratch.new) }
 {
-    let level = (1 + i / SHARPNESS_VALUES) as u8;
-    let sharpness = (i % SHARPNESS_VALUES) as u8;
-    make_candidate(input, entries, scratch, level, sharpness);
+    let pair = Pair {
+        level: (1 + i / SHARPNESS_VALUES) as u8,
+        sharpness: (i % SHARPNESS_VALUES) as u8,
+    };
+    make_candidate(input, entries, scratch, pair);
     let made = scratch.read();
     let Ok(sum) = reconstruction_ssd(made, input.layout, input.source) else {
         return best;
     };
-    take(best, level, sharpness, sum)
+    take(best, pair, sum)
 }
 
 // All pairs, one after the other.
@@ -98,13 +97,13 @@ fn find_best<E: Entries>(
         result (planes_lent scratch.new) }
 {
     let base = base_sharpness(input.config);
-    let start = Best {
+    let pair = Pair {
         level: 0,
         sharpness: base,
-        sum,
     };
+    let start = Best { pair, sum };
     let best = try_pairs(input, entries, scratch, start);
-    make_candidate(input, entries, scratch, best.level, best.sharpness);
+    make_candidate(input, entries, scratch, best.pair);
     best
 }
 

@@ -1,13 +1,15 @@
 -- Laws of the sums.
-use mathlib.Core.Path.{◌≡◌, refl, ap, subst, ◌∙◌}
+use mathlib.Core.Path.{◌≡◌, refl, ap, ap₂, subst, ◌∙◌}
 use mathlib.Core.Bool.{Bool, true, false, cond}
 use mathlib.Core.List.{List}
 use Prim.Native.Nat.{ℕ, zero, suc, ◌+◌, ◌*◌, ◌-◌, ◌≤◌, ◌<◌, ◌^◌}
 use native.Mathlib.Numerals.{add-one}
-use native.Mathlib.Nat.{mul-le-mul, add-zero, add-suc}
+use native.Mathlib.Nat.{add-zero, add-suc}
 use native.Mathlib.Omega.{arith}
 use lib.Dec.{ltb}
-use lib.ListN.{get_or}
+use lib.ListN.{length, get_or, drop}
+use borrow.Rule.Slice.PartMut.{mid_of}
+use Rattle.std.proofs.Common.{get_or-take, get_or-drop, length-take-le, length-drop, zero-add}
 use borrow.Author.Tests.{lt-ltb, le-ltb, ltb-true, ltb-false}
 use Rattle.std.specs.Int.{abs_diff}
 use Rattle.sums.specs.Sums.{squared, row_sum, rows_sum}
@@ -17,9 +19,6 @@ use Rattle.sums.specs.declared.answers.SearchRefusal.{SearchRefusal}
 use Rattle.sums.specs.declared.answers.SearchRefusal.TheVariants.{SumTooLarge}
 
 -- ---- squares
-
-pub square_le : (d : ℕ) → d < 256 → d * d ≤ 65025
-square_le d h = mul-le-mul {n₁ = d} {m₁ = d} {n₂ = 255} {m₂ = 255} (omega arith) (omega arith)
 
 pub squared_apart : (a b : ℕ) → abs_diff a b * abs_diff a b ≡ squared a b
 unfolding squared
@@ -34,6 +33,22 @@ row-none a i b j = refl
 pub row_more : (a : List ℕ) (i : ℕ) (b : List ℕ) (j n sum t : ℕ) → sum ≡ row_sum a i b j n → t ≡ squared (get_or a (i + n) 0) (get_or b (j + n) 0) → sum + t ≡ row_sum a i b j (n + 1)
 unfolding row_sum
 row_more a i b j n sum t e f = rw (add-one, e, f)
+
+-- parts of both planes that are lent as rows of their own
+module _ (a : List ℕ) (i : ℕ) (b : List ℕ) (j w : ℕ) where
+  part : (n : ℕ) → n ≤ w → row_sum (mid_of i w a) 0 (mid_of j w b) 0 n ≡ row_sum a i b j n
+  unfolding row_sum
+  part zero h = refl
+  part (suc n) h =
+      ap₂ {C = ℕ} (λ x y. x + y) (part n (omega arith))
+      (ap (λ (k : ℕ). squared (get_or (mid_of i w a) k 0) (get_or (mid_of j w b) k 0)) (zero-add n)
+      ∙ ap₂ squared (get_or-take w (drop i a) n 0 (omega arith) ∙ get_or-drop i a n 0) (get_or-take w (drop j b) n 0 (omega arith) ∙ get_or-drop j b n 0))
+
+  pub lent : (d e : ℕ) → d ≡ w → e ≡ w → i + w ≤ length a → row_sum (mid_of i d a) 0 (mid_of j e b) 0 (length (mid_of i d a)) ≡ row_sum a i b j w
+  lent d e ed ee fit =
+      (λ k. row_sum (mid_of i (ed k) a) 0 (mid_of j (ee k) b) 0 (length (mid_of i (ed k) a)))
+      ∙ ap (row_sum (mid_of i w a) 0 (mid_of j w b) 0) (length-take-le w (drop i a) (omega (arith, length-drop i a)))
+      ∙ part w (omega arith)
 
 module _ (a : List ℕ) (s : ℕ) (b : List ℕ) (t w : ℕ) where
   pub rows_none : 0 ≡ rows_sum a s b t w 0

@@ -270,9 +270,6 @@ module _ (g : Grid) (p : Planes) (s : Source) (r : Result Unit SearchRefusal) (e
   unfolding number_of
   number_at n h = sym (ap (λ (t : Result Unit SearchRefusal). number_of (outcome search_refusal_number t)) h) ∙ e
 
-  pub stopped_before : (rest : ℕ) (n : SearchRefusal) → r ≡ Err n → past_grid g p (past_source g s rest) ≡ search_refusal_number n
-  stopped_before rest n h = sum_stops g p s rest (search_refusal_number n) (number_at n h) (some_search n)
-
   pub stopped_sum : (n : SearchRefusal) (x : Result ℕ SearchRefusal) → r ≡ Err n → x ≡ Err n → sum_outcome x ≡ sum_answer g p s
   stopped_sum n x h q = ap sum_outcome q ∙ ends-before g p s (search_refusal_number n) (number_at n h) (some_search n)
 

@@ -1,6 +1,7 @@
+// The refusals of sums and searches (document 01, Search).
 use planes::grid::GridRefusal;
 
-// Why a sum or a search is refused, with its number in document 01: other numbers than a pass has, 8 to 10 and neither 5 nor 7. A sum reads no entry and never gives 6.
+// Each has its number in document 01: other numbers than a pass has, 8 to 10 and neither 5 nor 7. A sum reads no entry and never gives 6.
 #[derive(Clone, Copy, Debug, PartialEq, Eq)]
 pub enum SearchRefusal {
     TooLarge = 1,

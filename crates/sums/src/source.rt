@@ -1,5 +1,5 @@
 // The source picture as one record (document 01, Borrowed source; the Rust's SourcePlanes), and the refusals that it can cause: 8 and 9.
-ghost use Rattle.std.specs.Prelude.{◌≡◌, ◌+◌, ◌-◌, ◌*◌, ◌≤◌, ◌<◌, ltb, eqb, ◌||◌};
+ghost use Rattle.std.specs.Prelude.{◌≡◌, ◌+◌, ◌-◌, ◌*◌, ◌≤◌, ◌<◌, ltb, eqb, length, ◌||◌};
 ghost use Rattle.arithmetic.specs.Outcome.{outcome, number_of};
 ghost use Rattle.planes.specs.Layout.{grid_of};
 ghost use Rattle.sums.specs.Answers.{search_refusal_number};
@@ -31,13 +31,13 @@ fn over(n: usize, mbs: usize) -> bool
 }
 
 // 9, of one source plane: it is short by the rule of 3. The bounds are of a source that 8 and its strides let pass.
-// As `short_plane` of planes, which has a `requires` and so is private.
+// As `short_plane` of planes, which is private: a public function would check sums that can't wrap here.
 #[tactic(auto, unfolding(crate::specs::Private::SumCode::short_of))]
-fn short(len: usize, rows: usize, stride: usize, width: usize) -> bool
+fn short(plane: &[u8], rows: usize, stride: usize, width: usize) -> bool
     requires { (0 < rows) × (rows ≤ 16384) × (stride ≤ 65536) × (width ≤ 16384) }
-    ensures { result ≡ short_of len rows stride width }
+    ensures { result ≡ short_of (length plane.now) rows stride width }
 {
-    len < (rows - 1) * stride + width
+    plane.len() < (rows - 1) * stride + width
 }
 
 impl SourcePlanes<'_> {
@@ -49,10 +49,9 @@ impl SourcePlanes<'_> {
         over(self.width, layout.mb_cols) | over(self.height, layout.mb_rows)
     }
 
-    // 9: a source stride is below its row or above 65,536. 8 has bounded the width.
+    // 9: a source stride is below its row or above 65,536.
     #[tactic(auto, unfolding(crate::specs::Source::bad_source_strides))]
     fn has_bad_strides(self) -> bool
-        requires { self.width ≤ 16384 }
         ensures { result ≡ bad_source_strides (source_in self.entry) }
     {
         (self.y_stride < self.width)
@@ -70,9 +69,9 @@ impl SourcePlanes<'_> {
     {
         let width = self.width.div_ceil(2);
         let height = self.height.div_ceil(2);
-        let y = short(self.y.len(), self.height, self.y_stride, self.width);
-        let u = short(self.u.len(), height, self.uv_stride, width);
-        let v = short(self.v.len(), height, self.uv_stride, width);
+        let y = short(self.y, self.height, self.y_stride, self.width);
+        let u = short(self.u, height, self.uv_stride, width);
+        let v = short(self.v, height, self.uv_stride, width);
         y | u | v
     }
 
@@ -81,10 +80,7 @@ impl SourcePlanes<'_> {
         requires { (0 < self.width) × (0 < self.height) × (self.width ≤ 16384) × (self.height ≤ 16384) }
         ensures { result ≡ (bad_source_strides (source_in self.entry) || short_source (source_in self.entry)) }
     {
-        if self.has_bad_strides() {
-            return true;
-        }
-        self.is_short()
+        self.has_bad_strides() || self.is_short()
     }
 
     // A source without a sample.

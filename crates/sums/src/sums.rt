@@ -24,44 +24,40 @@ fn squared_difference(a: u8, b: u8) -> u32
     d * d
 }
 
-// The sum over w samples of a row. 65,536 squares of a byte fit 32 bits, of which a vector register holds twice as many as of 64.
-fn row_sum(a: &[u8], i: usize, b: &[u8], j: usize, w: usize) -> u64
-    requires w_in_bounds { i + w ≤ length a.now }
-    requires w_in_bounds_2 { j + w ≤ length b.now }
-    requires w_bound { w ≤ 65536 }
-    ensures { result ≡ row_sum a.now i b.now j w }
+// The sum over a row. 65,536 squares of a byte fit 32 bits, of which a vector register holds twice as many as of 64.
+fn row_sum(a: &[u8], b: &[u8]) -> u64
+    requires lengths { length a.now ≡ length b.now }
+    requires length_bound { length a.now ≤ 65536 }
+    ensures { result ≡ row_sum a.now 0 b.now 0 (length a.now) }
 {
     let mut sum: u32 = 0;
-    // k walks both rows.
-    for k in 0..w {
-        sum += squared_difference(a[i + k], b[j + k]);
+    for (x, y) in a.iter().zip(b) {
+        sum += squared_difference(*x, *y);
     }
     u64::from(sum)
 }
 
-// The sum over h rows, added to a start; 10 where that is 2 ^ 64 or more.
-fn plane_sum(
-    a: &[u8],
-    s: usize,
-    b: &[u8],
-    t: usize,
-    w: usize,
-    h: usize,
-    start: u64,
-) -> Result<u64, SearchRefusal>
-    requires w_in_bounds { (h - 1) * s + w ≤ length a.now }
-    requires w_in_bounds_2 { (h - 1) * t + w ≤ length b.now }
+// A plane: its rows lie one stride apart.
+#[derive(Clone, Copy)]
+struct Rows<'a> {
+    samples: &'a [u8],
+    stride: usize,
+}
+
+// The sum over h rows of w samples, added to a start; 10 where that is 2 ^ 64 or more.
+fn plane_sum(a: Rows<'_>, b: Rows<'_>, w: usize, h: usize, start: u64) -> Result<u64, SearchRefusal>
+    requires w_in_bounds { (h - 1) * a.stride + w ≤ length a.samples.now }
+    requires w_in_bounds_2 { (h - 1) * b.stride + w ≤ length b.samples.now }
     requires w_bound { w ≤ 65536 }
-    ensures { result ≡ fitting (start + rows_sum a.now s b.now t w h) }
+    ensures { result ≡ fitting (start + rows_sum a.entry.samples.now a.entry.stride b.entry.samples.now b.entry.stride w h) }
 {
     let mut sum = start;
     // Each plane has its stride: `chunks` by them would have a shorter last one, and a length to prove of each.
     for n in 0..h {
-        let row = row_sum(a, n * s, b, n * t, w);
-        let Some(more) = sum.checked_add(row) else {
-            return Err(SearchRefusal::SumTooLarge);
-        };
-        sum = more;
+        let i = n * a.stride;
+        let j = n * b.stride;
+        let row = row_sum(&a.samples[i..i + w], &b.samples[j..j + w]);
+        sum = sum.checked_add(row).ok_or(SearchRefusal::SumTooLarge)?;
     }
     Ok(sum)
 }
@@ -75,21 +71,47 @@ fn three_sums(
     requires { Summable (grid_of layout) (planes_in picture) (source_in source) }
     ensures { result ≡ fitting (error_sum (grid_of layout) (planes_in picture.entry) (source_in source.entry)) }
 {
-    let ys = layout.y_stride;
-    let us = layout.uv_stride;
     let width = source.width.div_ceil(2);
     let height = source.height.div_ceil(2);
     let y = plane_sum(
-        picture.y,
-        ys,
-        source.y,
-        source.y_stride,
+        Rows {
+            samples: picture.y,
+            stride: layout.y_stride,
+        },
+        Rows {
+            samples: source.y,
+            stride: source.y_stride,
+        },
         source.width,
         source.height,
         0,
     )?;
-    let u = plane_sum(picture.u, us, source.u, source.uv_stride, width, height, y)?;
-    plane_sum(picture.v, us, source.v, source.uv_stride, width, height, u)
+    let u = plane_sum(
+        Rows {
+            samples: picture.u,
+            stride: layout.uv_stride,
+        },
+        Rows {
+            samples: source.u,
+            stride: source.uv_stride,
+        },
+        width,
+        height,
+        y,
+    )?;
+    plane_sum(
+        Rows {
+            samples: picture.v,
+            stride: layout.uv_stride,
+        },
+        Rows {
+            samples: source.v,
+            stride: source.uv_stride,
+        },
+        width,
+        height,
+        u,
+    )
 }
 
 // 1, 2, 3, 8 or 9: what a sum is refused for before it is counted.

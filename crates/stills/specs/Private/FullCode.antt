@@ -6,18 +6,20 @@ use Rattle.scratch.specs.Copies.{copy_grid}
 use Rattle.scratch.specs.Private.Alike.{Alike}
 use Rattle.search.specs.Candidates.{Standing}
 use Rattle.search.specs.Search.{SearchCall, planes_of_candidate, score}
+use Rattle.search.specs.Private.SearchCode.{pair_of}
+use Rattle.search.specs.declared.candidates.Pair.{Pair}
 use Rattle.stills.specs.FullSearch.{pair_at, after_pairs, full_search}
 use Rattle.stills.specs.declared.answers.Best.{Best}
 
 -- what the loop holds of a standing
 abbrev pub best_of : Standing → Best
-best_of s = record { «level» = s.best.level; «sharpness» = s.best.sharpness; «sum» = s.sum }
+best_of s = record { «pair» = pair_of s.best; «sum» = s.sum }
 
-unfoldable pub taken : Best → (level sharpness sum : ℕ) → Best
-taken b level sharpness sum = cond (ltb sum b.«sum») (record { «level» = level; «sharpness» = sharpness; «sum» = sum }) b
+unfoldable pub taken : Best → Pair → (sum : ℕ) → Best
+taken b p sum = cond (ltb sum b.«sum») (record { «pair» = p; «sum» = sum }) b
 
 pub record Tried (W : Pass) (a : SearchCall W) (i : ℕ) (before r : Best) (after : Planes) : Type 0 where
-  pub best : r ≡ taken before (pair_at i).level (pair_at i).sharpness (score W a (pair_at i))
+  pub best : r ≡ taken before (pair_of (pair_at i)) (score W a (pair_at i))
   pub scratch : after ≡ copy_grid a.grid (planes_of_candidate W a (pair_at i)) a.scratch
 
 pub record AllTried (W : Pass) (a : SearchCall W) (r : Best) (after : Planes) : Type 0 where

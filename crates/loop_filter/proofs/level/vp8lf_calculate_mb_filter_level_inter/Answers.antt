@@ -13,7 +13,7 @@ unfolding number_of out_of
 returns-in-Ok c =
     let x = c.args in
     let f = c.ranges in
-    let e = sym (ap level_outcome c.in-Ok.is) ∙ c.calculate_mb_filter_level_inter.ensures ∙ ap (λ (q : FrameFilterConfig). inter_answer q x.segment x.reference x.inter_mode x.mode) (c.settings-config.ensures ∙ same-settings x.simple x.key_frame x.loop_filter_level x.sharpness_level x.segmentation_enabled x.segment_abs x.segment_level_0 x.segment_level_1 x.segment_level_2 x.segment_level_3 x.delta_enabled x.ref_delta_current x.bpred_mode_delta x.ref_delta_last x.ref_delta_golden x.ref_delta_altref x.zero_mv_mode_delta x.other_mv_mode_delta x.split_mv_mode_delta f.segment_level_0 f.segment_level_1 f.segment_level_2 f.segment_level_3 f.ref_delta_current f.bpred_mode_delta f.ref_delta_last f.ref_delta_golden f.ref_delta_altref f.zero_mv_mode_delta f.other_mv_mode_delta f.split_mv_mode_delta) in
+    let e = sym (ap level_outcome c.in-Ok.is) ∙ c.calculate_mb_filter_level_inter.ensures ∙ ap (λ (q : FrameFilterConfig). inter_answer q x.segment x.reference x.inter_mode x.mode) (same-settings c.settings-config.ensures f.segment_level_0 f.segment_level_1 f.segment_level_2 f.segment_level_3 f.ref_delta_current f.bpred_mode_delta f.ref_delta_last f.ref_delta_golden f.ref_delta_altref f.zero_mv_mode_delta f.other_mv_mode_delta f.split_mv_mode_delta) in
     returned e (record { number = refl; out = refl })
 
 pub returns-in-Err : goal.returns-in-Err
@@ -21,5 +21,5 @@ unfolding number_of out_of
 returns-in-Err c =
     let x = c.args in
     let f = c.ranges in
-    let e = sym (ap level_outcome c.in-Err.is) ∙ c.calculate_mb_filter_level_inter.ensures ∙ ap (λ (q : FrameFilterConfig). inter_answer q x.segment x.reference x.inter_mode x.mode) (c.settings-config.ensures ∙ same-settings x.simple x.key_frame x.loop_filter_level x.sharpness_level x.segmentation_enabled x.segment_abs x.segment_level_0 x.segment_level_1 x.segment_level_2 x.segment_level_3 x.delta_enabled x.ref_delta_current x.bpred_mode_delta x.ref_delta_last x.ref_delta_golden x.ref_delta_altref x.zero_mv_mode_delta x.other_mv_mode_delta x.split_mv_mode_delta f.segment_level_0 f.segment_level_1 f.segment_level_2 f.segment_level_3 f.ref_delta_current f.bpred_mode_delta f.ref_delta_last f.ref_delta_golden f.ref_delta_altref f.zero_mv_mode_delta f.other_mv_mode_delta f.split_mv_mode_delta) in
+    let e = sym (ap level_outcome c.in-Err.is) ∙ c.calculate_mb_filter_level_inter.ensures ∙ ap (λ (q : FrameFilterConfig). inter_answer q x.segment x.reference x.inter_mode x.mode) (same-settings c.settings-config.ensures f.segment_level_0 f.segment_level_1 f.segment_level_2 f.segment_level_3 f.ref_delta_current f.bpred_mode_delta f.ref_delta_last f.ref_delta_golden f.ref_delta_altref f.zero_mv_mode_delta f.other_mv_mode_delta f.split_mv_mode_delta) in
     returned e (record { number = c.from.ensures; out = refl })

@@ -1,4 +1,4 @@
-use Rattle.std.proofs.Common.{rules, ◌∙◌}
+use Rattle.std.proofs.Common.{rules}
 use Rattle.levels.specs.declared.config.FrameFilterConfig.{FrameFilterConfig}
 use Rattle.planes.specs.Layout.{planes_of}
 use Rattle.calls.specs.Pass.{key_pass}
@@ -15,5 +15,5 @@ returns c =
     let x = c.args in
     let f = c.ranges in
     let call : FrameFilterConfig → SearchCall key_pass = λ q. key_search (layout_of x.mb_cols x.mb_rows x.y_stride x.uv_stride) q (key_lists x.modes.now x.segments.now x.flags.now) (planes_of x.y.now x.u.now x.v.now) (planes_of x.scratch_y.now x.scratch_u.now x.scratch_v.now) (source_of x.width x.height x.src_y.now x.src_u.now x.src_v.now x.src_y_stride x.src_uv_stride) in
-    let same = c.settings-config.ensures ∙ same-settings x.simple x.key_frame x.loop_filter_level x.sharpness_level x.segmentation_enabled x.segment_abs x.segment_level_0 x.segment_level_1 x.segment_level_2 x.segment_level_3 x.delta_enabled x.ref_delta_current x.bpred_mode_delta x.ref_delta_last x.ref_delta_golden x.ref_delta_altref x.zero_mv_mode_delta x.other_mv_mode_delta x.split_mv_mode_delta f.segment_level_0 f.segment_level_1 f.segment_level_2 f.segment_level_3 f.ref_delta_current f.bpred_mode_delta f.ref_delta_last f.ref_delta_golden f.ref_delta_altref f.zero_mv_mode_delta f.other_mv_mode_delta f.split_mv_mode_delta in
+    let same = same-settings c.settings-config.ensures f.segment_level_0 f.segment_level_1 f.segment_level_2 f.segment_level_3 f.ref_delta_current f.bpred_mode_delta f.ref_delta_last f.ref_delta_golden f.ref_delta_altref f.zero_mv_mode_delta f.other_mv_mode_delta f.split_mv_mode_delta in
     searched key_pass call c.select_filter_params-answer.new.scratch (search rules) (search rules) (search rules) same c.select_filter_params-answer.ensures.searched c.put_choice.ensures

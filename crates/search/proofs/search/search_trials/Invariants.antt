@@ -13,5 +13,5 @@ invariant-loop-i g l =
     let W = g.E.Entries.pass in
     (l.i ≤ 88) × SameLoans l.initial.scratch l.scratch
     × (l.best ≡ steps (after_trial (score W (search_of W (g.E.Entries.carried l.entries) l.input (planes_lent l.initial.scratch))) l.base) 0 l.i l.initial.best)
-    × (l.best.«count» ≤ l.i)
+    × (l.best.«params».«count» ≤ l.i)
     × Alike (grid_of l.input.«layout») (planes_lent l.initial.scratch) (planes_lent l.scratch)

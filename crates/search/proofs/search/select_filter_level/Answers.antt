@@ -1,5 +1,4 @@
-use Rattle.std.proofs.Common.{◌≡◌, sym, ap, ◌∙◌, Err, rules}
-use Rattle.sums.specs.declared.answers.SearchRefusal.{SearchRefusal}
+use Rattle.std.proofs.Common.{◌≡◌, ap, ◌∙◌, Err, rules}
 use Rattle.search.specs.Search.{level_only}
 use Rattle.search.specs.Answers.{level_only_outcome}
 use Rattle.search.proofs.search.select_filter_level.Goals as goal

@@ -5,7 +5,7 @@ use Rattle.sums.specs.SourceRecord.{source_in}
 use Rattle.sums.specs.Sums.{sum_answer}
 use Rattle.scratch.proofs.AlikeLaws.{alike_self, alike-copy}
 use Rattle.search.specs.Search.{planes_of_candidate}
-use Rattle.search.proofs.Scores.{byte-planes, made, scored-sum, scored-always}
+use Rattle.search.proofs.Scores.{made, scored-sum, scored-always}
 use Rattle.search.proofs.TrialLaws.{tried-skip, tried-take}
 use Rattle.search.proofs.search.try_candidate.Goals as goal
 

@@ -5,7 +5,6 @@ use Rattle.planes.specs.Pictures.{planes_in}
 use Rattle.planes.proofs.PastGrid.{macroblocks-most}
 use Rattle.sums.specs.Answers.{sum_outcome}
 use Rattle.sums.specs.GridToSearch.{of_grid}
-use Rattle.sums.specs.SourceRecord.{source_in}
 use Rattle.sums.proofs.SumRefusals.{stopped_by_grid, passed_grid, passed_sum}
 use Rattle.search.specs.Search.{SearchCall, search_of, search_refusal}
 use Rattle.search.proofs.Endings.{small}

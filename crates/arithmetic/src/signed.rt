@@ -25,7 +25,7 @@ pub fn pick(yes: bool, a: i16, b: i16) -> i16
     if yes { a } else { b }
 }
 
-// Changes no difference of two samples.
+// Changes no difference of two samples. Of its own beside `clamp`: std's method is the body of both, and each has its own definition.
 #[tactic(auto, using(crate::proofs::Limited::limits_255))]
 fn within_255(v: i16) -> i16
     ensures { result ≡ spec.within255 v }

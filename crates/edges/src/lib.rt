@@ -1,4 +1,5 @@
-// One edge of a macroblock (RFC 6386, section 15.1) in any plane: filtered if it fits, else left alone; and the normal kernels on one window.
+// One edge of a macroblock (RFC 6386, section 15.1) in any plane: filtered if it
+// fits, else left alone; and the normal kernels on one window.
 #![tactic(auto)]
 
 pub mod horizontal;

@@ -10,8 +10,11 @@ pub struct EdgePlace {
 }
 
 impl EdgePlace {
-    // `across` samples from `at` on, and in each row down to the one `last` rows below, lie among `len` samples. No sum or product can wrap.
-    // It takes the length alone, since no sample is read. A caller that names `last` as a number has a division by that number, which the compiler turns into a product.
+    // `across` samples from `at` on, and in each row down to the one `last` rows
+    // below, lie among `len` samples. No sum or product can wrap.
+    // One chain of `and_then` was tried: the proof did not close.
+    // It takes the length alone, since no sample is read. A caller that names `last` as a number has a division by that number, which the
+    // compiler turns into a product.
     pub(crate) fn has_room(self, len: usize, last: usize, across: usize) -> bool
         requires { 0 < last }
         ensures { result ≡ leb (self.at + last * self.stride + across) len }

@@ -12,7 +12,7 @@ ghost use Rattle.edges.specs.Private.Runs.{SignedEight, SignedFour, edge_taps, s
 use arithmetic::signed::{at_most_123, clamp, filter_value, pick};
 use kernels::limits::EdgeLimits;
 
-// A segment p1 p0 | q0 q1, as signed numbers: the samples as stored are the kernels' own.
+// A segment p1 p0 | q0 q1, as signed numbers: the samples as stored are the kernels' own, here and of eight taps.
 #[derive(Clone, Copy)]
 pub struct FourTaps {
     pub p1: i16,
@@ -109,6 +109,8 @@ pub(crate) fn tap_value(outer: bool, taps: FourTaps) -> i16
 {
     filter_value(outer, taps.p1 - taps.q1, taps.q0 - taps.p0)
 }
+
+// What p0 gains and q0 loses are two rules of the RFC (section 15.2), with 3 and with 4, and two definitions.
 
 fn gain(a: i16) -> i16
     requires { mag a < 128 }

@@ -29,7 +29,7 @@ pub(crate) fn gather<const N: usize>(plane: &[u8], at: usize) -> [i16; N]
     array::from_fn(|n| u2s16(plane[at + n]))
 }
 
-// N samples stored from `at` on. By index: `copy_from_slice` would want an array of
+// N samples stored from `at` on, which goes beside the plane as in `gather`. By index: `copy_from_slice` would want an array of
 // the samples first, and of a part that is lent to `iter_mut` a proof knows only the length.
 pub(crate) fn scatter<const N: usize>(plane: &mut [u8], at: usize, row: [i16; N])
     requires at_in_bounds { at + N ≤ length plane.old }

@@ -24,7 +24,8 @@ fn passed_in(answer: Result<bool, KernelRefusal>) -> bool
     answer.unwrap_or(false)
 }
 
-// Counts a window whose test did not pass. The number is lent, so that it stays in memory: such windows are few, and the others are left without a step for it.
+// Counts a window whose test did not pass. The number is lent, so that it stays in memory:
+// such windows are few, and the others are left without a step for it.
 fn note(passed: bool, missed: &mut usize)
     requires { missed.old < 18446744073709551615 }
     ensures { missed.new + mark passed ≡ missed.old + 1 }
@@ -35,7 +36,8 @@ fn note(passed: bool, missed: &mut usize)
     *missed += 1;
 }
 
-// A normal edge that fits, `rows` rows of it. The rows whose test did not pass are counted in `missed`. A function of its own, into which the compiler puts the kernel.
+// A normal edge that fits, `rows` rows of it. The rows whose test did not pass are counted in
+// `missed`. A function of its own, into which the compiler puts the kernel.
 #[inline(never)]
 pub(crate) fn normal_rows<E: NormalEdge>(
     plane: &mut [u8],

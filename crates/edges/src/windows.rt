@@ -1,4 +1,5 @@
-// The normal kernels on one window, as an edge of one row: the loops over an edge's rows stay the kernels' only callers, so the compiler can put the kernels into them.
+// The normal kernels on one window, as an edge of one row: the loops over an edge's rows stay the kernels' only callers, so the compiler
+// can put the kernels into them.
 ghost use Rattle.std.specs.Prelude.{◌≡◌};
 ghost use Rattle.kernels.specs.Answers.{kernel_outcome};
 ghost use Rattle.kernels.specs.Segment.{windowed, window_answer};

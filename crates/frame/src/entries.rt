@@ -1,4 +1,5 @@
-// The entries of a picture's macroblocks as callers lend them: byte lists, one entry a macroblock, or a list of records (document 01, Option lists).
+// The entries of a picture's macroblocks as callers lend them: byte lists, one entry a
+// macroblock, or a list of records (document 01, Option lists).
 ghost use Rattle.std.specs.Prelude.{◌≡◌, ◌||◌};
 ghost use Rattle.calls.specs.Entries.{segment_byte, inter_record};
 ghost use Rattle.calls.specs.Pass.{inside_of, is_b};

@@ -1,4 +1,5 @@
-// The passes over a frame, in raster order, halted and resumed by start and allowance (document 01, Passes and Halting). The entries say which pass it is.
+// The passes over a frame, in raster order, halted and resumed by start and allowance
+// (document 01, Passes and Halting). The entries say which pass it is.
 ghost use Rattle.std.specs.Prelude.{◌≡◌, ◌<◌, false};
 ghost use Rattle.planes.specs.Layout.{grid_of};
 ghost use Rattle.planes.specs.Planes.{macroblocks};
@@ -17,7 +18,8 @@ use levels::config::FrameFilterConfig;
 use planes::layout::PlaneLayout;
 use planes::picture::PictureMut;
 
-// The call's parameters are document 01's, one by one, here and in frame_calls: they are handed on once, and no struct of them has another use.
+// The call's parameters are document 01's, one by one, here and in frame_calls: a struct
+// of them would be opened for both callees.
 
 // Macroblocks `from` to `to` - 1. The answer: how many positions were smoothed.
 fn filter_range<E: Entries>(

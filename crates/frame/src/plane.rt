@@ -1,4 +1,5 @@
-// One plane of a macroblock, its edges in order (RFC 6386, section 15.1): left border, inner vertical edges, upper border, inner horizontal edges.
+// One plane of a macroblock, its edges in order (RFC 6386, section 15.1): left border,
+// inner vertical edges, upper border, inner horizontal edges.
 ghost use Rattle.std.specs.Prelude.{◌≡◌, ◌*◌, ◌-◌, ◌/◌, length};
 ghost use Rattle.planes.specs.Edges.{vertical, horizontal};
 ghost use Rattle.frame.specs.Private.PlaneEdges.{Inside, Did, place_of, positions_of, left_from, top_from, inner_from, plane_from};
@@ -29,6 +30,8 @@ impl Square {
 }
 
 // Plane and square apart, here and below: a struct of both would hold the plane by reference, with a fact to prove after each write.
+// Left and upper border are functions apart, and so are the inner edges: horizontal ones are rows apart and not samples, as in the
+// definition, and one function with the direction as a const parameter would have an `if` around each of the lines that differ.
 fn left<E: Edge<N>, const N: usize>(edge: E, plane: &mut [u8], square: Square) -> usize
 where
     Samples: EdgeLength<N>,
@@ -78,8 +81,6 @@ where
     }
 }
 
-// Its edges are rows apart and not samples, as in the definition: one function with the direction as a const parameter
-// would have an `if` around each of the two lines that differ.
 fn inner_horizontal<E: Edge<N>, const N: usize>(
     edge: E,
     plane: &mut [u8],

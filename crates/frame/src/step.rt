@@ -17,7 +17,8 @@ use limit_table::table::limits_at;
 use planes::layout::PlaneLayout;
 use planes::picture::PictureMut;
 
-// The square of `side` samples of the macroblock in this row and column. The bounds are of a layout that was judged; one as callers make it has none.
+// The square of `side` samples of the macroblock in this row and column. The bounds are
+// of a layout that was judged; one as callers make it has none.
 fn square(side: usize, stride: usize, row: usize, column: usize) -> Square
     requires side_bound { side ≤ 16 }
     requires stride_bound { stride ≤ 65536 }
@@ -50,6 +51,7 @@ fn filter_with(
     let row = m / layout.mb_cols;
     let column = m % layout.mb_cols;
     let luma = square(16, layout.y_stride, row, column);
+    // One branch a macroblock: the simple filter has no chroma, and its edges are of another type.
     if simple {
         let (outer, inner) = (Simple(limits.mbedge_limit), Simple(limits.sub_bedge_limit));
         filter_plane::<_, _, 16>(outer, inner, picture.y, luma, inside)

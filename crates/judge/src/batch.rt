@@ -1,4 +1,5 @@
-// What a call of a pass is to do, from numbers alone: refusals 1, 2, 3, 5, 6 and 7 in this order, then the macroblocks that start and allowance name.
+// What a call of a pass is to do, from the planes' lengths and the entries; no sample is read: refusals
+// 1, 2, 3, 5, 6 and 7 in this order, then the macroblocks that start and allowance name.
 ghost use Rattle.std.specs.Prelude.{◌≡◌};
 ghost use Rattle.planes.specs.Layout.{grid_of};
 ghost use Rattle.planes.specs.Planes.{macroblocks};

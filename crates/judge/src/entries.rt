@@ -64,7 +64,7 @@ pub fn bad_entries(modes: &[u8], references: &[u8], inter_modes: &[u8]) -> bool
     mode | reference | inter_mode
 }
 
-// The length of a list is not n, the number of macroblocks.
+// The length of a list is not n, which goes beside it: it is the grid's number of macroblocks, and no length of the list's own.
 #[tactic(auto, unfolding(calls::specs::Entries::length_is_not))]
 pub fn length_is_not<T>(list: &[T], n: usize) -> bool
     ensures { result ≡ length_is_not n list.now }

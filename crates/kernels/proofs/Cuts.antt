@@ -51,11 +51,6 @@ unfolding in_byte
 in-byte (pos n) e = plain (pos n) (le-ltb n 0 (omega arith)) (sym (ap (λ (t : Bool). t && ltb n 256) (le-leb 0 n (omega arith))) ∙ e)
 in-byte (negsuc n) e = absurd (subst (λ (t : Bool). T (cond t false true)) e tt)
 
-pub byte-in : (v : ℤ) → Plain v → in_byte v ≡ true
-unfolding in_byte
-byte-in (pos n) p = λ j. le-leb 0 n (omega arith) j && lt-ltb n 256 p.size j
-byte-in (negsuc n) p = absurd p.sign
-
 -- such a number in a local, cast to a byte; and the tests that say so, joined
 module _ {w : Width} {n : ℕ} {z : ℤ} {A : ℕ} (p : R.Is w n z A) where
   pub told : {f : Bool} → f ≡ in_byte (to_z w n) → f ≡ true → Plain z

@@ -152,23 +152,6 @@ module _ (base : ℕ) (l : List ℕ) (within : base ≤ length l) where
       pick true f = ap gives (passes_same k (λ t. 0 + t) (λ t. base + t) (rest_of base l) l (λ t h. rest-tap base l t (omega (arith, h, leb-true (base + taps k) (length l) f))))
       pick false f = refl
 
-  pub rest-adjust : (o : Bool) → adjust_answer o (rest_of base l) 0 ≡ adjust_answer o l base
-  unfolding adjust_answer fits_at taps half
-  rest-adjust o =
-      ap (λ (b : Bool). cond b (gives (adjustment o (x 0) (x 1) (x 2) (x 3))) (refuses 4)) (fits-rest 4 base l within)
-      ∙ pick (leb (base + 4) (length l)) refl
-    where
-      x : ℕ → ℕ
-      x t = get_or (rest_of base l) t 0
-
-      pick : (b : Bool) → leb (base + 4) (length l) ≡ b → cond b (gives (adjustment o (x 0) (x 1) (x 2) (x 3))) (refuses 4)
-          ≡ cond b (gives (adjustment o (get_or l base 0) (get_or l (base + 1) 0) (get_or l (base + 2) 0) (get_or l (base + 3) 0))) (refuses 4)
-      pick true f =
-          let fit : base + 4 ≤ length l = leb-true (base + 4) (length l) f in
-          let first : x 0 ≡ get_or l base 0 = rest-tap base l 0 (omega (arith, fit)) ∙ ap (λ (i : ℕ). get_or l i 0) (add-zero base) in
-          λ i. gives (adjustment o (first i) (rest-tap base l 1 (omega (arith, fit)) i) (rest-tap base l 2 (omega (arith, fit)) i) (rest-tap base l 3 (omega (arith, fit)) i))
-      pick false f = refl
-
 -- ---- a window is taken out, given to the kernel and put back
 
 gather-next : (l : List ℕ) (base t n : ℕ) → base + t + n ≤ length l → gather (λ k. base + k) t n l ≡ take n (drop (base + t) l)

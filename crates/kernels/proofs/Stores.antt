@@ -1,6 +1,6 @@
 -- Numbers stored next to one another, a store a turn; and numbers of which all are bytes.
 -- Assumes nothing.
-use Rattle.std.proofs.Common.{◌≡◌, ℕ, zero, suc, ◌+◌, ◌<◌, Bool, true, false, ◌&&◌, List, [], ◌∷◌, length, get_or, take, set, ℤ, pos, sym, refl, ap, ◌∙◌, arith, add-zero, add-one, not-suc-le-zero, le_of_suc-le-suc, take_all}
+use Rattle.std.proofs.Common.{◌≡◌, ℕ, zero, suc, ◌+◌, ◌<◌, Bool, true, false, ◌&&◌, List, [], ◌∷◌, length, get_or, take, set, ℤ, pos, sym, refl, ap, ◌∙◌, arith, add-zero, add-one, not-suc-le-zero, le_of_suc-le-suc}
 use mathlib.Core.Bool.{false≢true}
 use Rattle.std.specs.List.{list_all}
 use Rattle.kernels.specs.Segment.{scatter}
@@ -23,9 +23,6 @@ pub store-turn : (n first : ℕ) (vs : List ℤ) (l m : List ℕ) (v : ℕ) → 
     → set m (first + n) v ≡ stored_cut first (take (n + 1) vs) l
 store-turn n first vs l m v h e f =
     (λ i. set (e i) (first + n) (f i)) ∙ step n first vs l h ∙ sym (ap (λ (k : ℕ). stored_cut first (take k vs) l) (add-one n))
-
-pub store-end : (n first : ℕ) (vs : List ℤ) (l m : List ℕ) → length vs ≡ n → m ≡ stored_cut first (take n vs) l → m ≡ stored_cut first vs l
-store-end n first vs l m h e = e ∙ ap (λ (ws : List ℤ). stored_cut first ws l) (take_all n vs (omega (arith, h)))
 
 -- both of two tests
 pub first-of : (a b : Bool) → (a && b) ≡ true → a ≡ true

@@ -17,10 +17,11 @@ pub(crate) struct Bounds {
 }
 
 // 2 * edge + 1, but at most 123: then a + 4 of common_adjust is at most 127.
+// Not `2 * edge.min(61) + 1`, in which 123 does not stand, and with which the normal filter takes 1 to 2 % more.
 fn sum_bound(edge: u8) -> u8
     ensures { (result ≤ 2 * edge + 1) × (result ≤ 123) }
 {
-    2 * edge.min(61) + 1
+    if edge < 61 { 2 * edge + 1 } else { 123 }
 }
 
 pub(crate) fn bounds_of(limits: EdgeLimits) -> Bounds

@@ -5,7 +5,8 @@ ghost use Rattle.kernels.specs.Private.Moves as spec;
 
 use crate::taps::{Near, Taps};
 
-// p0 and q0, where a is that of common_adjust.
+// p0 and q0, where a is that of common_adjust. The bound of a is a clause, here and below: a type of such numbers would be for these three
+// alone, and each caller would make one.
 pub(crate) fn two(a: i64, w: Near) -> [i64; 2]
     requires { mag a < 2048 }
     ensures { result ≡ spec.two a w }

@@ -19,7 +19,8 @@ fn low<const WIDE: bool>(window: &mut [u8; 8], w: Taps, s: Bounds) -> bool
     try_low::<WIDE>(window, w, s.step) || whole::<WIDE>(s.limits, window)
 }
 
-// The neighbours are near. The variance is high if the threshold is the bound that they exceed.
+// The neighbours are near. Apart from `low`, since its window is tried by another function, by `sum` in place of `step`, and only if the
+// variance is high: it is if the threshold is the bound that they exceed.
 fn high<const WIDE: bool>(window: &mut [u8; 8], w: Taps, s: Bounds) -> bool
     requires window { Window window.old w s }
     requires beyond { inner_near s.inner w ≡ false }

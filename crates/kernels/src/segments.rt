@@ -17,16 +17,16 @@ pub fn has_window(n: usize, taps: usize, base: usize) -> bool
     n.checked_sub(taps).is_some_and(|last| base <= last)
 }
 
-// common_adjust on the first samples of a slice. Each kernel has these two steps: of `seg[base..].first_chunk_mut()` in one function a proof
-// loses the bytes, and a function that gave back the window that it lends would need a clause on what they end as.
+// common_adjust on the first samples of a slice. Each kernel has these two steps: of `seg[base..].first_chunk_mut()` in one function, and
+// of a part from `get_mut(base..)`, a proof loses the bytes, and a function that gave back the window that it lends would need a clause on
+// what they end as. Three pairs, since windows and answers are of three kinds: one over a closure on the window would have their clauses
+// as its own.
 #[tactic(auto, unfolding(crate::specs::Segment::adjust_answer, crate::specs::Segment::windowed, crate::specs::Segment::fits_at, crate::specs::Segment::taps, crate::specs::Segment::half))]
 fn adjust_first(outer: bool, seg: &mut [u8]) -> Result<i32, KernelRefusal>
     ensures result_value { adjust_outcome result ≡ adjust_answer outer seg.old 0 }
     ensures seg_after { seg.new ≡ windowed (common_adjust outer) seg.old 0 }
 {
-    let Some(window) = seg.first_chunk_mut::<4>() else {
-        return Err(KernelRefusal::NoWindow);
-    };
+    let window = seg.first_chunk_mut::<4>().ok_or(KernelRefusal::NoWindow)?;
     let taps = near_of(window);
     Ok(adjust(outer, window, taps) as i32)
 }
@@ -65,10 +65,8 @@ fn simple_first(edge: u8, seg: &mut [u8]) -> Result<bool, KernelRefusal>
     ensures result_value { kernel_outcome result ≡ window_answer (simple_segment edge) seg.old 0 }
     ensures seg_after { seg.new ≡ windowed (simple_segment edge) seg.old 0 }
 {
-    match seg.first_chunk_mut::<4>() {
-        Some(window) => Ok(simple_passed(edge, window)),
-        None => Err(KernelRefusal::NoWindow),
-    }
+    let window = seg.first_chunk_mut::<4>().ok_or(KernelRefusal::NoWindow)?;
+    Ok(simple_passed(edge, window))
 }
 
 #[tactic(auto, unfolding(crate::specs::Segment::window_answer, crate::specs::Segment::windowed, crate::specs::Segment::fits_at, crate::specs::Segment::taps, crate::specs::Segment::half))]
@@ -88,10 +86,8 @@ fn normal_first<const WIDE: bool>(limits: EdgeLimits, seg: &mut [u8]) -> Result<
     ensures result_value { kernel_outcome result ≡ window_answer (normal WIDE limits.threshold limits.interior limits.limit) seg.old 0 }
     ensures seg_after { seg.new ≡ windowed (normal WIDE limits.threshold limits.interior limits.limit) seg.old 0 }
 {
-    match seg.first_chunk_mut::<8>() {
-        Some(window) => Ok(passed::<WIDE>(limits, window)),
-        None => Err(KernelRefusal::NoWindow),
-    }
+    let window = seg.first_chunk_mut::<8>().ok_or(KernelRefusal::NoWindow)?;
+    Ok(passed::<WIDE>(limits, window))
 }
 
 #[tactic(auto, unfolding(crate::specs::Segment::window_answer, crate::specs::Segment::windowed, crate::specs::Segment::fits_at, crate::specs::Segment::taps, crate::specs::Segment::half))]

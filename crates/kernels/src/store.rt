@@ -6,7 +6,7 @@ ghost use Rattle.kernels.specs.Private.Windows as win;
 fn in_byte(v: i64) -> bool
     ensures { result ≡ win.in_byte v }
 {
-    (0 <= v) & (v < 256)
+    (0..256).contains(&v)
 }
 
 fn cut(v: i64) -> u8
@@ -27,9 +27,10 @@ fn are_bytes<const N: usize>(values: &[i64; N]) -> bool
     all
 }
 
-// Stores the values if all of them are bytes, and answers whether they are. All are tested, those of the subblock filter at the edge too, which
-// stay bytes: with a test of the outer two alone the normal filter was no faster.
-// By index: `copy_from_slice` would want an array of the samples first, and of a part that is lent to `iter_mut` a proof knows only the length.
+// Stores the values if all of them are bytes, and answers whether they are. All are tested, those of
+// the subblock filter at the edge too, which stay bytes: so one function serves two, four and six samples.
+// By index: `copy_from_slice` would want an array of the samples first, and of a
+// part that is lent to `iter_mut` a proof knows only the length.
 // N ≤ W is of literals that the callers name; a trait for it would have an impl for each pair.
 pub(crate) fn store_plain<const W: usize, const N: usize>(
     window: &mut [u8; W],

@@ -4,8 +4,8 @@ ghost use Rattle.kernels.specs.Private.Taps as spec;
 
 use crate::near::both_near;
 
-// A segment p1 p0 | q0 q1, as stored. Not one generic type with the taps of `edges::position`, which are signed numbers: it would be public,
-// for four fields.
+// A segment p1 p0 | q0 q1, as stored. Not one generic type with the taps of
+// `edges::position`, which are signed numbers: it would be public, for four fields.
 #[derive(Clone, Copy)]
 pub(crate) struct Near {
     pub p1: u8,
@@ -14,7 +14,7 @@ pub(crate) struct Near {
     pub q1: u8,
 }
 
-// A segment p3 .. p0 | q0 .. q3, of which p1 p0 | q0 q1 is `near`.
+// A segment p3 .. p0 | q0 .. q3, of which p1 p0 | q0 q1 is `near`: that of the kernels with four samples, which have no others.
 #[derive(Clone, Copy)]
 pub(crate) struct Taps {
     pub p3: u8,

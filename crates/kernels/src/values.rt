@@ -1,4 +1,5 @@
-// RFC 6386, sections 15.2 and 15.3: the tests and the numbers of one segment, from its samples as stored. A difference of samples is that of their signed numbers.
+// RFC 6386, sections 15.2 and 15.3: the tests and the numbers of one segment, from its samples
+// as stored. A difference of samples is that of their signed numbers.
 ghost use Rattle.std.specs.Prelude.{◌≡◌, ◌-ℤ◌};
 ghost use Rattle.arithmetic.specs.Numbers as num;
 ghost use Rattle.kernels.specs.Kernels as spec;

@@ -56,8 +56,8 @@ fn at_edge<const WIDE: bool>(limits: EdgeLimits, window: &mut [u8; 8], w: Taps) 
     passes
 }
 
-// mb_filter or subblock_filter, where the bounds decide nothing. A function of its own, which the compiler keeps out of the loops over an
-// edge's rows.
+// mb_filter or subblock_filter, where the bounds decide nothing. A function of its own beside `passed`, whose tests it makes, since it has
+// every clamp and `passed` none: few windows come here, and the compiler keeps it out of the loops over an edge's rows.
 #[inline(never)]
 pub(crate) fn whole<const WIDE: bool>(limits: EdgeLimits, window: &mut [u8; 8]) -> bool
     ensures { Filtered WIDE limits window.old result window.new }

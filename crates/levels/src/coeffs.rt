@@ -1,4 +1,5 @@
-// Whether a macroblock has coefficients (RFC 6386, section 15.1), and the first of them. Document 01 has them as one list, y2 (16), y (256), u (64), v (64); here it is of any length.
+// Whether a macroblock has coefficients (RFC 6386, section 15.1), and the first of them. Document 01 has them as one list, y2 (16), y
+// (256), u (64), v (64); here it is of any length.
 ghost use Rattle.std.specs.Prelude.{◌≡◌, ◌≢◌, ◌<◌, ◌≤◌, ℕ, length, get_or, pos};
 ghost use Rattle.levels.specs.Coefficients.{has_coeffs, first_coeff};
 

@@ -18,7 +18,7 @@ use stills::full_search::full_search;
 use sums::answers::SearchRefusal;
 use sums::source::SourcePlanes;
 
-// Returns 0 and puts the chosen pair and its sum, or returns the number of the refusal.
+// Returns 0 and puts the chosen pair and its sum, or returns the number of the refusal. Beside `put_choice`: see there.
 #[tactic(auto, unfolding(arithmetic::specs::Outcome::number_of, crate::specs::Returned::out_of))]
 fn put_full_choice(
     answer: Result<Best, SearchRefusal>,

@@ -18,6 +18,7 @@ use planes::layout::PlaneLayout;
 use planes::picture::PictureMut;
 
 // Returns 0 and puts the count, the next start and the positions smoothed, or returns the number of the refusal.
+// Each answer has a function of its own: see `put_choice` of `selects`.
 #[tactic(auto, unfolding(calls::specs::Answers::pass_refusal_number, arithmetic::specs::Outcome::number_of, crate::specs::Returned::out_of))]
 fn put_progress(
     answer: Result<Done, PassRefusal>,
@@ -215,7 +216,8 @@ pub extern "C" fn vp8lf_filter_inter_frame(
     put_progress(answer, count, next, smoothed)
 }
 
-// The key pass, turned off by header level 0: the planes stay, and the macroblocks count as done. A refusal leaves `count`, `next` and `smoothed` alone.
+// The key pass, turned off by header level 0: the planes stay, and the macroblocks count
+// as done. A refusal leaves `count`, `next` and `smoothed` alone.
 #[unsafe(no_mangle)]
 pub extern "C" fn vp8lf_loop_filter_frame(
     y: &mut [u8],
@@ -300,7 +302,8 @@ pub extern "C" fn vp8lf_loop_filter_frame(
     put_progress(answer, count, next, smoothed)
 }
 
-// The inter pass, turned off by header level 0: the planes stay, and the macroblocks count as done. A refusal leaves `count`, `next` and `smoothed` alone.
+// The inter pass, turned off by header level 0: the planes stay, and the macroblocks count
+// as done. A refusal leaves `count`, `next` and `smoothed` alone.
 #[unsafe(no_mangle)]
 pub extern "C" fn vp8lf_loop_filter_inter_frame(
     y: &mut [u8],

@@ -11,6 +11,7 @@ use kernels::answers::KernelRefusal;
 use kernels::limits::EdgeLimits;
 
 // Returns 0 and puts 1 where the test passed and 0 where it did not, or returns the number of the refusal.
+// Each answer has a function of its own: see `put_choice` of `selects`.
 #[tactic(auto, unfolding(arithmetic::specs::Outcome::number_of, crate::specs::Returned::out_of), using(crate::proofs::Returns::mark_byte))]
 fn put_passed(answer: Result<bool, KernelRefusal>, passed: &mut u8) -> u8
     ensures { PassedReturned (kernel_outcome answer) result passed.old passed.new }

@@ -1,5 +1,5 @@
-// The planes of a frame: definitions of the loop filter on them (`specs`), their laws (`proofs`), the judgement of the grid that a caller lends, and what is lent of a
-// picture.
+// The planes of a frame: definitions of the loop filter on them (`specs`), their laws (`proofs`), the judgement of the grid that a caller
+// lends, and what is lent of a picture.
 #![tactic(auto)]
 
 pub mod grid;

@@ -1,4 +1,6 @@
-// The three planes of a picture, lent for reading or for writing.
+// The three planes of a picture, lent for reading or for writing. Not one struct over what a plane is, with the lengths of `layout`: it
+// could not derive `Copy` for one and `Drop` for the other, and each method and definition of theirs is of one of them.
+// A call that is lent a `PictureMut` could put other loans into it: that it does not is a clause of each (`SameLoans`).
 ghost use Rattle.std.specs.Prelude.{◌≡◌, length};
 ghost use Rattle.planes.specs.Pictures.{planes_in, planes_lent};
 

@@ -39,8 +39,9 @@ pub fn mark_record(rt: &impl Print, marks: usize, last: io::Result<bool>) -> io:
 
 // Begins a line by its name. The input has the count of the section's records before them, two bytes; where it ends in them, a mark says
 // so, and those that are there count.
-pub fn begin_section(rt: &(impl Input + Print), name: &str) -> io::Result<u16> {
-    print!(rt; "{name} ")?;
+pub fn begin_section(rt: &(impl Input + Print), name: &[u8]) -> io::Result<u16> {
+    rt.write_all(name)?;
+    print!(rt; " ")?;
     let mut count = [0u8; 2];
     if if_whole(rt.reader().read_exact(&mut count))?.is_none() {
         mark(rt, false)?;

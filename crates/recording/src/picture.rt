@@ -22,6 +22,7 @@ pub struct Planes<const Y: usize, const U: usize, const V: usize> {
 pub type Samples = Planes<1280, 352, 348>;
 
 impl<const Y: usize, const U: usize, const V: usize> Planes<Y, U, V> {
+    // Two functions: loans for reading and for writing are two types.
     pub fn lend(&self) -> Picture<'_>
         ensures { planes_in result ≡ planes_of self.now.y self.now.u self.now.v }
     {

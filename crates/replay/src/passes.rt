@@ -116,8 +116,8 @@ fn over_lists<const Y: usize, const U: usize, const V: usize, const N: usize>(
     }
 }
 
-// What a recorded call has for the four macroblocks of its picture. Film, of other sizes, goes by `over_lists`: the check can't state a method
-// of a trait that has a const parameter, and on the trait itself three would be named at each impl and bound.
+// What a recorded call has for the four macroblocks of its picture. Film, of other sizes, goes by `over_lists`: the check can't state a
+// method of a trait that has a const parameter, and on the trait itself three would be named at each impl and bound.
 trait Listed: Copy {
     fn read(rt: &impl Input) -> io::Result<Self>;
 

@@ -13,7 +13,7 @@ pub(crate) fn section<F: Fn() -> io::Result<bool>>(
 ) -> io::Result<()>
     requires { F.IsAlwaysCallable replay }
 {
-    for _ in 0..begin_section(rt, name)? {
+    for _ in 0..begin_section(rt, name.as_bytes())? {
         mark_record(rt, marks, replay())?;
     }
     println!(rt)

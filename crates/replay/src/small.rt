@@ -15,6 +15,8 @@ use recording::input::{
 };
 use std::io;
 
+// `replay_clamp` to `replay_derive` each read what a record holds and call one function: what they share is in `section`.
+
 fn replay_clamp(rt: &impl Input) -> io::Result<bool> {
     let clamped = clamp_s8(read_i32(rt)?);
     Ok(clamped == read_i8(rt)?)

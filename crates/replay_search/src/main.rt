@@ -19,7 +19,7 @@ fn section<F: Fn() -> io::Result<bool>>(
 ) -> io::Result<()>
     requires { F.IsAlwaysCallable replay }
 {
-    for _ in 0..begin_section(rt, name)? {
+    for _ in 0..begin_section(rt, name.as_bytes())? {
         mark_record(rt, 4, replay())?;
     }
     println!(rt)

@@ -23,7 +23,8 @@ fn copy_rows(source: &[u8], into: &mut [u8], stride: usize, w: usize, n: usize)
     }
 }
 
-// Planes and scratch planes that pass 1, 2 and 3.
+// Planes and scratch planes that pass 1, 2 and 3. They and the layout go apart, here and below: a struct of them would hold the scratch
+// planes by reference, and be made and opened once in a call.
 fn copy_planes(picture: Picture<'_>, scratch: &mut PictureMut<'_>, layout: PlaneLayout)
     requires lent { past_grid (grid_of layout) (planes_in picture) 0 ≡ 0 }
     requires scratch { past_grid (grid_of layout) (planes_lent scratch.old) 0 ≡ 0 }
@@ -45,7 +46,7 @@ fn copy_planes(picture: Picture<'_>, scratch: &mut PictureMut<'_>, layout: Plane
 }
 
 // The planes' grid in the scratch planes; or 1, 2 or 3 of the planes, then of the scratch planes, and nothing is copied.
-pub fn copy_grid(
+pub fn try_copy_grid(
     picture: Picture<'_>,
     scratch: &mut PictureMut<'_>,
     layout: PlaneLayout,
@@ -61,4 +62,12 @@ pub fn copy_grid(
     layout.judge(held)?;
     copy_planes(picture, scratch, layout);
     Ok(())
+}
+
+// The same, for a caller that asks for no refusal. Where 1, 2 or 3 holds of planes or scratch planes, these are left alone.
+pub fn copy_grid(picture: Picture<'_>, scratch: &mut PictureMut<'_>, layout: PlaneLayout)
+    ensures loans { SameLoans scratch.old scratch.new }
+    ensures copied { planes_lent scratch.new ≡ copied_grid (grid_of layout) (planes_in picture.entry) (planes_lent scratch.old) }
+{
+    let _ = try_copy_grid(picture, scratch, layout);
 }

@@ -10,7 +10,7 @@ use frame::pass::filter_frame;
 use judge::entries::Entries;
 use levels::config::FrameFilterConfig;
 use planes::picture::PictureMut;
-use scratch::copies::copy_grid;
+use scratch::copies::try_copy_grid;
 
 // What a search tries, and what it chooses.
 #[derive(Clone, Copy, Debug, Default, PartialEq, Eq)]
@@ -41,7 +41,8 @@ fn settings_at(config: FrameFilterConfig, pair: Pair) -> FrameFilterConfig
     }
 }
 
-// The candidate's planes in the grid of the scratch planes: the unfiltered copy, and but for level 0 one whole pass. Where 1, 2 or 3 holds of planes or scratch planes, these are left alone.
+// The candidate's planes in the grid of the scratch planes: the unfiltered copy, and but for level 0 one whole pass. Where 1, 2 or 3 holds
+// of planes or scratch planes, these are left alone.
 // Entries go apart (see SearchInput), and so do the scratch planes, which are written.
 pub fn make_candidate<E: Entries>(
     input: SearchInput<'_>,
@@ -56,7 +57,7 @@ pub fn make_candidate<E: Entries>(
         (planes_in input.entry.picture) (candidate_of pair))
         (planes_lent scratch.old) }
 {
-    let Ok(()) = copy_grid(input.picture, scratch, input.layout) else {
+    let Ok(()) = try_copy_grid(input.picture, scratch, input.layout) else {
         return;
     };
     if pair.level == 0 {

@@ -1,4 +1,5 @@
-// The search for a level and a sharpness: of the pairs that it tries, the one with the smallest error sum (document 01, Search; the Rust's select_filter_params and select_filter_level). The entries say whether it is the key search or the inter search.
+// The search for a level and a sharpness: of the pairs that it tries, the one with the smallest error sum (document 01, Search; the Rust's
+// select_filter_params and select_filter_level). The entries say whether it is the key search or the inter search.
 ghost use Rattle.std.specs.Prelude.{◌≡◌, ◌<◌};
 ghost use Rattle.planes.specs.Layout.{grid_of};
 ghost use Rattle.planes.specs.Pictures.{planes_in, planes_lent, SameLoans};

@@ -1,4 +1,5 @@
-// The trials of a search, in document 01's order, and what each makes of the best candidate so far. `specs/Private/SearchCode.antt` says each as a definition.
+// The trials of a search, in document 01's order, and what each makes of the best candidate
+// so far. `specs/Private/SearchCode.antt` says each as a definition.
 ghost use Rattle.std.specs.Prelude.{◌≡◌, ◌+◌, ◌<◌, cond, eqb};
 ghost use Rattle.search.specs.Candidates.{near};
 ghost use Rattle.search.specs.Private.SearchCode.{coarse_at, near_trial, sharpness_trial, trial_of, taken, with_winner};
@@ -41,7 +42,8 @@ fn is_near(winner: u8, level: u8) -> bool
     winner.abs_diff(level) <= 3
 }
 
-// Trial i: a coarse level; a level near the winner but the best of the moment; another sharpness unless the best level is 0. None is passed over.
+// Trial i: a coarse level; a level near the winner but the best of the moment;
+// another sharpness unless the best level is 0. `None`: the trial is passed over.
 // One loop over the numbers of all trials: of three loops each would be a function, with the same five parameters, four clauses and
 // invariant, and an enum of the phases would be one more type, where here a number chooses between three lines.
 #[tactic(auto, unfolding(crate::specs::Private::SearchCode::trial_of))]
@@ -84,7 +86,7 @@ fn sharpness_trial(base: u8, sharpness: u8, best: Best) -> Option<Pair>
     ((level != 0) & (sharpness != base)).then_some(Pair { level, sharpness })
 }
 
-// One more, of a level above 0.
+// One more, of a level above 0. That the count is below 100 is a clause, here, below and of a trial: it holds within a search alone.
 fn counted(level: u8, count: usize) -> usize
     requires { count < 100 }
     ensures { result ≡ cond (eqb level 0) 0 1 + count }
@@ -113,7 +115,7 @@ pub(crate) fn take(best: Best, pair: Pair, sum: u64) -> Best
     Best { params, ..best }
 }
 
-// The winner is the best of the coarse levels, whose trials come first.
+// The winner is the best of the coarse levels, whose trials come first: by the trial's number, as in `next_trial`.
 #[tactic(auto, unfolding(crate::specs::Private::SearchCode::with_winner))]
 pub(crate) fn note_winner(i: usize, best: Best) -> Best
     ensures { result ≡ with_winner i best }

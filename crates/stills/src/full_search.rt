@@ -1,4 +1,5 @@
-// The full search for stills: unfiltered and every level 1 to 63 with every sharpness 0 to 7 are tried, 505 candidates (change request 1). The entries say whether it is the key search or the inter search.
+// The full search for stills: unfiltered and every level 1 to 63 with every sharpness 0 to 7 are tried, 505 candidates (change request 1).
+// The entries say whether it is the key search or the inter search.
 ghost use Rattle.std.specs.Prelude.{◌≡◌, ◌<◌};
 ghost use Rattle.planes.specs.Layout.{grid_of};
 ghost use Rattle.planes.specs.Pictures.{planes_in, planes_lent, SameLoans};
@@ -22,8 +23,8 @@ use sums::sums::reconstruction_ssd;
 // The sharpness values 0 to 7.
 const SHARPNESS_VALUES: usize = 8;
 
-// The levels 1 to 63 with the sharpness values 0 to 7. By one number: a loop of levels and one of sharpness values would be two functions with
-// the same clauses.
+// The levels 1 to 63 with the sharpness values 0 to 7. By one number: a loop of levels and
+// one of sharpness values would be two functions with the same clauses.
 const PAIRS: usize = 504;
 
 // Only a strictly smaller sum replaces.
@@ -37,7 +38,8 @@ fn take(best: Best, pair: Pair, sum: u64) -> Best
     best
 }
 
-// Pair i is made in the scratch planes, and taken if it is better. Ready is a clause, as in the other search.
+// Pair i is made in the scratch planes, and taken if it is better. Ready is a clause, and entries and scratch planes go apart, as in the
+// other search. Its last lines are that search's: one function for both would answer a sum or none, and each would take it as here.
 fn try_pair<E: Entries>(
     input: SearchInput<'_>,
     entries: E,
@@ -107,7 +109,7 @@ fn find_best<E: Entries>(
     best
 }
 
-// The pair with the smallest sum, and that sum; or a refusal.
+// The pair with the smallest sum, and that sum; or a refusal. Beside the other search, whose best has a count and a winner too.
 pub fn full_search<E: Entries>(
     input: SearchInput<'_>,
     entries: E,

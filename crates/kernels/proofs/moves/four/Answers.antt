@@ -4,21 +4,6 @@ use Rattle.kernels.specs.declared.taps.Near.{Near}
 use Rattle.kernels.specs.Private.Moves.{four}
 use Rattle.kernels.proofs.moves.four.Goals as goal
 
-pub overflow_add-half : goal.overflow_add-half
-overflow_add-half c =
-    let value : R.Is w64 (of_z w64 c.args.a) c.args.a 2048 = record { val = (R.held {w = w64} c.ranges.a).val; inr = c.requires } in
-    R.add? value (R.lit w64 12 tt) tt
-
-pub overflow_add-result-2 : goal.overflow_add-result-2
-overflow_add-result-2 c =
-    let value : R.Is w64 (of_z w64 c.args.a) c.args.a 2048 = record { val = (R.held {w = w64} c.ranges.a).val; inr = c.requires } in
-    R.add? value (R.lit w64 3 tt) tt
-
-pub overflow_add-result-4 : goal.overflow_add-result-4
-overflow_add-result-4 c =
-    let value : R.Is w64 (of_z w64 c.args.a) c.args.a 2048 = record { val = (R.held {w = w64} c.ranges.a).val; inr = c.requires } in
-    R.add? value (R.lit w64 4 tt) tt
-
 pub returns : goal.returns
 unfolding four
 returns c =

@@ -4,36 +4,6 @@ use Rattle.kernels.specs.declared.taps.Taps.{Taps}
 use Rattle.kernels.specs.Private.Moves.{six}
 use Rattle.kernels.proofs.moves.six.Goals as goal
 
-pub overflow_mul-a0 : goal.overflow_mul-a0
-overflow_mul-a0 c =
-    let value : R.Is w64 (of_z w64 c.args.v) c.args.v 2048 = record { val = (R.held {w = w64} c.ranges.v).val; inr = c.requires } in
-    R.mul? 27 value tt tt
-
-pub overflow_add-a0 : goal.overflow_add-a0
-overflow_add-a0 c =
-    let value : R.Is w64 (of_z w64 c.args.v) c.args.v 2048 = record { val = (R.held {w = w64} c.ranges.v).val; inr = c.requires } in
-    R.add? (R.mul 27 value tt tt) (R.lit w64 63 tt) tt
-
-pub overflow_mul-a1 : goal.overflow_mul-a1
-overflow_mul-a1 c =
-    let value : R.Is w64 (of_z w64 c.args.v) c.args.v 2048 = record { val = (R.held {w = w64} c.ranges.v).val; inr = c.requires } in
-    R.mul? 18 value tt tt
-
-pub overflow_add-a1 : goal.overflow_add-a1
-overflow_add-a1 c =
-    let value : R.Is w64 (of_z w64 c.args.v) c.args.v 2048 = record { val = (R.held {w = w64} c.ranges.v).val; inr = c.requires } in
-    R.add? (R.mul 18 value tt tt) (R.lit w64 63 tt) tt
-
-pub overflow_mul-a2 : goal.overflow_mul-a2
-overflow_mul-a2 c =
-    let value : R.Is w64 (of_z w64 c.args.v) c.args.v 2048 = record { val = (R.held {w = w64} c.ranges.v).val; inr = c.requires } in
-    R.mul? 9 value tt tt
-
-pub overflow_add-a2 : goal.overflow_add-a2
-overflow_add-a2 c =
-    let value : R.Is w64 (of_z w64 c.args.v) c.args.v 2048 = record { val = (R.held {w = w64} c.ranges.v).val; inr = c.requires } in
-    R.add? (R.mul 9 value tt tt) (R.lit w64 63 tt) tt
-
 pub returns : goal.returns
 unfolding six
 returns c =

@@ -4,16 +4,6 @@ use Rattle.kernels.specs.declared.taps.Near.{Near}
 use Rattle.kernels.specs.Private.Moves.{two}
 use Rattle.kernels.proofs.moves.two.Goals as goal
 
-pub overflow_add-result : goal.overflow_add-result
-overflow_add-result c =
-    let value : R.Is w64 (of_z w64 c.args.a) c.args.a 2048 = record { val = (R.held {w = w64} c.ranges.a).val; inr = c.requires } in
-    R.add? value (R.lit w64 3 tt) tt
-
-pub overflow_add-result-3 : goal.overflow_add-result-3
-overflow_add-result-3 c =
-    let value : R.Is w64 (of_z w64 c.args.a) c.args.a 2048 = record { val = (R.held {w = w64} c.ranges.a).val; inr = c.requires } in
-    R.add? value (R.lit w64 4 tt) tt
-
 pub returns : goal.returns
 unfolding two
 returns c =

@@ -19,11 +19,11 @@ unfolding half taps near_of
 returns-clause-result_value c =
     let x = c.args in
     let a = R.cast {w' = w32} (R.got {w = w64} c.adjust.type_inv c.adjust.ensures.value (adjustment-in _ _ _ _ _)) tt in
-    ap gives (a.val ∙ ap (λ (w : Near). adjustment x.outer w.p1 w.p0 w.q0 w.q1) c.near_of-taps.ensures) ∙ first-adjust x.outer x.seg.now c.in-Some.window.now (search rules) (search rules)
+    ap gives (a.val ∙ ap (λ (w : Near). adjustment x.outer w.p1 w.p0 w.q0 w.q1) c.near_of-taps.ensures) ∙ first-adjust x.outer x.seg.now c.in_ok-window.window.now (search rules) (search rules)
 
 pub returns-clause-seg_after : goal.returns-clause-seg_after
 unfolding half taps near_of
 returns-clause-seg_after c =
     let x = c.args in
-    first-lent (common_adjust x.outer) x.seg.now 4 refl (search rules) c.in-Some.window.now (search rules) c.adjust.new.window _
-    (c.adjust.ensures.window_after ∙ ap (adjusted 4 x.outer c.in-Some.window.now) c.near_of-taps.ensures ∙ sym (common-window c.in-Some.window.now x.outer)) (search rules)
+    first-lent (common_adjust x.outer) x.seg.now 4 refl (search rules) c.in_ok-window.window.now (search rules) c.adjust.new.window _
+    (c.adjust.ensures.window_after ∙ ap (adjusted 4 x.outer c.in_ok-window.window.now) c.near_of-taps.ensures ∙ sym (common-window c.in_ok-window.window.now x.outer)) (search rules)

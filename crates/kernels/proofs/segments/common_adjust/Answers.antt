@@ -1,12 +1,6 @@
-use Rattle.std.proofs.Common.{◌∙◌}
 use Rattle.kernels.specs.Segment.{common_adjust}
-use Rattle.kernels.proofs.LentWindows.{rest-window, rest-adjust}
+use Rattle.kernels.proofs.LentWindows.{rest-window}
 use Rattle.kernels.proofs.segments.common_adjust.Goals as goal
-
-pub returns-clause-result_value : goal.returns-clause-result_value
-returns-clause-result_value c =
-    let x = c.args in
-    c.adjust_first.ensures.result_value ∙ rest-adjust x.base x.seg.now c.if-base-seg.false x.use_outer_taps
 
 pub returns-clause-seg_after : goal.returns-clause-seg_after
 returns-clause-seg_after c =

@@ -1,7 +1,7 @@
 use Rattle.std.proofs.Common.{◌≡◌, ◌-◌, ◌/◌, get_or, ℤ, pos, nat_abs, sym, ap, ◌∙◌, arith, rules, w8, w64, of_z, to_z}
 use Rattle.arithmetic.proofs.Ranges as R
 use Rattle.kernels.proofs.Cuts.{Plain, in-byte}
-use Rattle.kernels.proofs.Stores.{store-none, store-turn, store-end, byte-at}
+use Rattle.kernels.proofs.Stores.{store-none, store-turn, byte-at}
 use Rattle.kernels.proofs.store.store_plain.Goals as goal
 
 pub loop-n-init : goal.loop-n-init
@@ -19,6 +19,3 @@ loop-n-preserved g c =
     let p : Plain v = in-byte v (byte-at c.loop-n.n c.args.values (omega (arith, c.loop-n.invariant.2)) (sym c.are_bytes.ensures ∙ c.if-not-are_bytes.false)) in
     let e : to_z w64 (of_z w64 v) ≡ v = search rules in
     (omega arith, store-turn c.loop-n.n ((g.row.W - g.row.N) / 2) c.args.values _ _ _ (omega (arith, c.loop-n.invariant.2)) c.loop-n.invariant.1 (ap nat_abs e ∙ p.same), c.loop-n.invariant.2)
-
-pub returns : goal.returns
-returns g c = store-end c.loop-n.n ((g.row.W - g.row.N) / 2) c.args.values _ _ (omega (arith, c.loop-n.invariant.2, c.loop-n.invariant.0)) c.loop-n.invariant.1

@@ -1,4 +1,4 @@
-use Rattle.std.proofs.Common.{refl, ◌∙◌, arith}
+use Rattle.std.proofs.Common.{refl, arith}
 use Rattle.planes.proofs.Loans.{own_loans, loans_on}
 use Rattle.scratch.proofs.AlikeLaws.{alike_self, alike_then}
 use Rattle.search.specs.Search.{score, planes_of_candidate}
@@ -7,12 +7,6 @@ use Rattle.search.proofs.search.search_trials.Goals as goal
 
 pub loop-i-init : goal.loop-i-init
 loop-i-init g c = (omega arith, own_loans _, trials-none _ _ _, omega (arith, c.requires.count_value), alike_self _ _)
-
-pub try_candidate-next-requires : goal.try_candidate-next-requires
-try_candidate-next-requires g c =
-    let i = c.loop-i.invariant in
-    let r = c.requires.ready in
-    record { ready = record { planes = r.planes; scratch = i.4.same ∙ r.scratch; source = r.source; bytes = r.bytes; source_bytes = r.source_bytes }; count_bound = omega (arith, i.3, c.loop-i-test.true) }
 
 pub loop-i-preserved : goal.loop-i-preserved
 unfolding score planes_of_candidate

@@ -1,21 +1,9 @@
 use Rattle.std.proofs.Common.{refl, ◌∙◌, arith}
-use Rattle.planes.proofs.Loans.{own_loans, loans_on}
-use Rattle.scratch.proofs.AlikeLaws.{alike_self, alike-copy, alike_then}
+use Rattle.planes.proofs.Loans.{loans_on}
+use Rattle.scratch.proofs.AlikeLaws.{alike-copy, alike_then}
 use Rattle.search.specs.Search.{score, planes_of_candidate}
 use Rattle.stills.proofs.Pairs.{pairs-more, pairs_end}
 use Rattle.stills.proofs.full_search.try_pairs.Goals as goal
-
-pub loop-i-init : goal.loop-i-init
-loop-i-init g c = (omega arith, own_loans _, c.requires.starts, alike_self _ _)
-
-pub try_pair-best-requires : goal.try_pair-best-requires
-try_pair-best-requires g c =
-    let i = c.loop-i.invariant in
-    let r = c.requires.ready in
-    record {
-      ready = record { planes = r.planes; scratch = i.3.same ∙ r.scratch; source = r.source; bytes = r.bytes; source_bytes = r.source_bytes };
-      i_bound = c.loop-i-test.true;
-    }
 
 pub loop-i-preserved : goal.loop-i-preserved
 unfolding score planes_of_candidate

@@ -3,7 +3,7 @@ use Rattle.arithmetic.specs.Outcome.{number_of}
 use Rattle.planes.specs.Pictures.{planes_in, planes_lent}
 use Rattle.planes.proofs.PastGrid.{grid-passes}
 use Rattle.scratch.proofs.CopyLaws.{judged-stops, judged-refuses, judged-passes, not-copied, copied}
-use Rattle.scratch.proofs.copies.copy_grid.Goals as goal
+use Rattle.scratch.proofs.copies.try_copy_grid.Goals as goal
 
 -- the planes are refused
 pub returns-in_err-judge-clause-number : goal.returns-in_err-judge-clause-number

@@ -6,19 +6,21 @@ use Rattle.std.proofs.Math.Option.{some-injective, some-ne-none, none-ne-some}
 use Rattle.std.proofs.Math.Decide.{ℕ_discrete}
 use Rattle.arithmetic.specs.Numbers.{clamp, u2s, s2u, shr}
 use Rattle.kernels.specs.Kernels as kernels
-use Rattle.kernels.specs.Segment.{half, taps, smooth, gather, scatter, segment}
+use Rattle.kernels.specs.Segment.{half, taps, smooth, gather, scatter, segment, passes, passes_at, mark}
 use Rattle.arithmetic.specs.Limits.{at_least_one, interior_limit, hev_threshold, mbedge_limit, sub_bedge_limit, with_interior, derive}
 use Rattle.levels.specs.Encodings.{mode_of, reference_of, inter_mode_of, bad_mode, bad_reference, bad_inter_mode}
 use Rattle.levels.specs.Levels as levels
-use Rattle.planes.specs.Steps.{steps, Clear}
+use Rattle.planes.specs.Steps.{steps, tally, Clear}
 use Rattle.planes.specs.Planes.{Plane, luma, chroma_u, chroma_v, Planes, Sample, sample}
 use Rattle.planes.specs.Edges.{first_row, first_column, edge_tap, filter_edge, borders, insides, places}
 use Rattle.planes.specs.Macroblock.{only, edge_at, edges_at, filter_edges, filter_macroblock}
+use Rattle.planes.specs.Smoothed.{edge_smoothed, edges_smoothed, macroblock_smoothed}
 use Rattle.planes.specs.Reach.{Box, Near, Reach, Own}
 use Rattle.planes.specs.GridRefusals.{zero_grid, too_large, bad_strides, needed, short_planes, after_grid}
 use Rattle.calls.specs.Entries.{KeyCarried, segment_byte, key_record, no_record, entry_of, key_entry, inter_entry, length_is_not, key_lengths_wrong, inter_lengths_wrong, key_bad_entry, inter_bad_entry}
 use Rattle.calls.specs.Pass.{Pass, Call, key_pass, inter_pass, is_b, inside_of, plan_with, plan_at, key_plan, inter_plan, refusal, step, count, next, answer, planes_after}
 use Rattle.calls.specs.Calls.{LastLeft, AfterRefused, Carries, after_accepted, Calls, counts, allowances, done, StandIn, FurtherCalls}
+use Rattle.calls.specs.Smoothed.{step_smoothed, part, parts}
 use Rattle.calls.specs.FinalRows.{rows_final, final_rows}
 use Rattle.calls.specs.ExampleCalls.{left, in-luma, key_grid, key_picture, key_example_call, key₀, key₁, key₂, without_last_row, settings, key_example_lists, key_example_records, key_records_example_call, zero_picture, inter_grid, inter_example_call, inter₀, inter₁, put}
 use Rattle.calls.specs.CallExamples.{sees_all_but, Shown}
@@ -116,6 +118,7 @@ unfolding clamp u2s s2u shr at_least_one interior_limit hev_threshold mbedge_lim
     steps first_row first_column edge_tap filter_edge borders insides places only edge_at edges_at filter_edges filter_macroblock
     zero_grid too_large bad_strides needed short_planes after_grid entry_of key_entry inter_entry segment_byte key_record no_record length_is_not key_lengths_wrong inter_lengths_wrong key_bad_entry inter_bad_entry
     is_b inside_of plan_with plan_at key_plan inter_plan refusal step count next answer planes_after
+    passes passes_at mark tally edge_smoothed edges_smoothed macroblock_smoothed step_smoothed part parts
     rows_final final_rows Reach Near Box Carries after_accepted counts allowances done
 shown = record {
   key = record {
@@ -125,6 +128,8 @@ shown = record {
         (Calls.accepted (key_example_call key₁ 0 1 1) (record { count = 1; next = 2 }) refl (record { grid = refl; settings = refl; planes = refl; start = refl }) (λ m _. refl) Calls.none));
     refused = refl;
     k = refl;
+    own-parts = refl;
+    smoothed = refl;
     further = FurtherCalls.accepted (key_example_call key₂ 0 2 9) (record { count = 1; next = 3 }) refl (record { grid = refl; settings = refl; planes = refl; start = refl }) FurtherCalls.none;
     further-put-in = FurtherCalls.accepted (key_example_call key₂ 4 2 9) (record { count = 1; next = 3 }) refl (record { grid = refl; settings = refl; planes = refl; start = refl }) FurtherCalls.none;
     final = key-final;
@@ -142,6 +147,7 @@ shown = record {
     refused-idle = refl;
     marks = refl;
     k = refl;
+    smoothed = refl;
     further = FurtherCalls.accepted (inter_example_call inter₁ 0 0 1 9) (record { count = 1; next = 2 }) refl (record { grid = refl; settings = refl; planes = refl; start = refl }) FurtherCalls.none;
     further-put-in = FurtherCalls.put_in (put inter₁) stands-in (FurtherCalls.accepted (inter_example_call (put inter₁) 0 1 1 9) (record { count = 1; next = 2 }) refl (record { grid = refl; settings = refl; planes = refl; start = refl }) FurtherCalls.none);
     final = inter-final;

@@ -2,7 +2,7 @@
 use mathlib.Core.Path.{◌≡◌, refl, sym, ap, ◌∙◌}
 use mathlib.Core.Bool.{Bool, true, cond}
 use mathlib.Core.List.{List, ◌∷◌}
-use Prim.Native.Nat.{ℕ, zero, suc, ◌+◌, ◌-◌, ◌*◌, ◌≤◌, min}
+use Prim.Native.Nat.{ℕ, zero, suc, ◌+◌, ◌-◌, ◌*◌, ◌≤◌, ◌<◌, min}
 use native.Mathlib.Nat.{zero-add, sub-zero, zero-min}
 use native.Mathlib.Omega.{arith}
 use lib.Dec.{eqb, eqb-suc-zero}
@@ -14,7 +14,7 @@ use Rattle.planes.specs.Macroblock.{leave}
 use Rattle.planes.specs.GridRefusals.{zero_grid}
 use Rattle.calls.specs.Entries.{Entry}
 use Rattle.calls.specs.Pass.{Pass, Call, Progress, key_pass, inter_pass, refusal, step, count, answer}
-use Rattle.calls.specs.Calls.{Picture, LastLeft, GoesOn, Carries, after_accepted, AfterRefused, Calls, allowances, done}
+use Rattle.calls.specs.Calls.{Picture, LastLeft, Accepted, GoesOn, Carries, after_accepted, AfterRefused, Calls, allowances, done, Unbroken}
 use Rattle.calls.specs.Smoothed.{step_smoothed, part, part_within, parts, first_smoothed, OfEveryPart, PartsPromise}
 use Rattle.planes.proofs.Local.{same-plan}
 use Rattle.planes.proofs.Tally.{tally-add, tally-ext, tally-most, tally-none}
@@ -56,11 +56,11 @@ module _ (W : Pass) (a : Call W) where
       tally-most (step W a.grid a.settings (W.entry a.carried)) (step_smoothed W a.grid a.settings (W.entry a.carried)) 192
       (λ m p. macroblock-most a.grid (λ i. W.plan a.settings (W.entry a.carried i)) m p) a.start (count W a) a.lent
 
-  own-none : ((e : Entry) → W.plan a.settings e ≡ leave) → own ≡ 0
+  own-none : ((m : ℕ) → a.start ≤ m → m < a.start + count W a → W.plan a.settings (W.entry a.carried m) ≡ leave) → own ≡ 0
   unfolding step_smoothed
   own-none h =
-      tally-none (step W a.grid a.settings (W.entry a.carried)) (step_smoothed W a.grid a.settings (W.entry a.carried))
-      (λ m p. left-smoothed a.grid (λ i. W.plan a.settings (W.entry a.carried i)) m p (h (W.entry a.carried m))) a.start (count W a) a.lent
+      tally-none (step W a.grid a.settings (W.entry a.carried)) (step_smoothed W a.grid a.settings (W.entry a.carried)) a.start (count W a)
+      (λ m b l p. left-smoothed a.grid (λ i. W.plan a.settings (W.entry a.carried i)) m p (h m b l)) a.lent
 
   count-few : refusal W a ≡ 0 → count W a ≤ 1048576
   unfolding count
@@ -75,8 +75,9 @@ module _ (W : Pass) (a : Call W) where
   zero-count z = omega (arith, zero-macroblocks a.grid.columns a.grid.rows z)
 
 pub every-part : (W : Pass) → OfEveryPart W
-unfolding tally
+unfolding tally Accepted
 every-part W = record {
+  accepted = λ a (d, e). (own W a, part-taken W a (taken W a d e).not-refused);
   refused = λ a number e. part-refused W a number e;
   most = λ a m e. omega (arith, (part-given W a m e).1, own-most W a);
   bounded = λ a m e. omega (arith, (part-given W a m e).1, own-most W a, count-few W a (part-given W a m e).0);
@@ -104,9 +105,9 @@ module _ (W : Pass) (pic : Picture) where
 
   -- what an accepted call smooths, its own entries at work
   own-part : (h : LastLeft) (a : Call W) (d : Progress) → answer W a ≡ gives d → GoesOn W pic h a
-      → part_within (part W a) ≡ tally (f W pic (W.entry a.carried)) (c (W.entry a.carried)) h.start (min a.allowance (n W pic - h.start)) h.planes
+      → part W a ≡ gives (tally (f W pic (W.entry a.carried)) (c (W.entry a.carried)) h.start (min a.allowance (n W pic - h.start)) h.planes)
   unfolding count
-  own-part h a d e on = ap part_within (part-taken W a (taken W a d e).not-refused) ∙ rw (on.grid, on.settings, on.planes, on.start)
+  own-part h a d e on = part-taken W a (taken W a d e).not-refused ∙ rw (on.grid, on.settings, on.planes, on.start)
 
   -- the parts of a list from h on
   Sum : LastLeft → List (Call W) → Type 0
@@ -120,7 +121,7 @@ module _ (W : Pass) (pic : Picture) where
       let m = min a.allowance (n W pic - h.start) in
       let p = b.planes ∙ same-steps W pic a.carried ca h.start m (omega arith) h.planes in
       let s = split W pic a.allowance (allowances W rest) h.start (n W pic) l in
-      let o = own-part h a d e on ∙ same_parts a.carried ca h.start m (omega arith) h.planes in
+      let o = ap part_within (own-part h a d e on) ∙ same_parts a.carried ca h.start m (omega arith) h.planes in
       rw (o, r, e, s, tally-add, p, b.start)
 
   sum-refused : (h h₁ : LastLeft) (a : Call W) (number : ℕ) (rest : List (Call W)) → answer W a ≡ refuses number → AfterRefused W h a h₁ → Sum h₁ rest → Sum h (a ∷ rest)
@@ -135,6 +136,18 @@ module _ (W : Pass) (pic : Picture) where
   sums l (Calls.accepted {h = h} {rest = rest} a d e on ca r) = sum-accepted h a d rest l e on ca (sums (start-le W pic h a d l e on).1 r)
   sums l (Calls.refused {h = h} {h₁ = h₁} {rest = rest} a number e after r) = sum-refused h h₁ a number rest e after (sums (rw after.start l) r)
 
+  -- what one unbroken pass tells
+  unbroken-part : (p : Planes) (a : Call W) → Unbroken W pic p a → part W a ≡ gives (first_smoothed W pic (n W pic) p)
+  unfolding Accepted first_smoothed
+  unbroken-part p a u =
+      let (d, ok) = u.accepted in
+      own-part (at_first W pic p) a d ok u.goes_on
+      ∙ ap gives (rw u.allowance (same_parts a.carried u.carries 0 (min (n W pic) (n W pic - 0)) (omega arith) p
+      ∙ ap (λ (j : ℕ). tally (f W pic pic.entries) (c pic.entries) 0 j p) (whole (n W pic))))
+    where
+      whole : (j : ℕ) → min j (j - 0) ≡ j
+      whole j = omega arith
+
   -- over a list of the halting rule the parts add up to the total of its first k steps
   pub parts-promised : (p : Planes) (list : List (Call W)) (h : LastLeft) → Calls W pic (at_first W pic p) list h → PartsPromise W pic p list
   unfolding Sum done first_smoothed step_smoothed
@@ -142,6 +155,7 @@ module _ (W : Pass) (pic : Picture) where
       let e : parts W list ≡ first_smoothed W pic (done W pic list) p = sums (omega arith) calls ∙ rw sub-zero in
       record {
         added = e;
+        unbroken = λ all a u. unbroken-part p a u ∙ ap gives (ap (λ (k : ℕ). first_smoothed W pic k p) (sym all) ∙ sym e);
         most = omega (
           arith,
           e,

@@ -11,6 +11,7 @@ use Rattle.planes.specs.Macroblock.{filter}
 use Rattle.planes.specs.Reach.{Reach}
 use Rattle.calls.specs.Pass.{key_pass, inter_pass, plan_at, answer}
 use Rattle.calls.specs.Calls.{Calls, done, FurtherCalls}
+use Rattle.calls.specs.Smoothed.{part, parts}
 use Rattle.calls.specs.FinalRows.{Rows, final_rows}
 use Rattle.calls.specs.ExampleCalls.{left, in-luma, key_grid, key_picture, key_example_call, key₀, key₁, key₂, key₃, key₃', without_last_row, settings, mixed_list, zero_picture, zero_list, key_list, inter_grid, inter_picture, inter_example_call, inter₀, inter₁, inter₂, inter₂', put, inter_list}
 
@@ -18,6 +19,11 @@ pub record KeyShown : Type 0 where
   pub list : Calls key_pass key_picture (left key₀ 0) key_list (left key₂ 2)
   pub refused : answer key_pass (key_example_call (without_last_row key₁) 0 1 9) ≡ refuses 3
   pub k : done key_pass key_picture key_list ≡ 2
+  -- the first macroblock's inner edges, nothing, and the left border of the second
+  pub own-parts :
+      part key_pass (key_example_call key₀ 0 0 1) ∷ part key_pass (key_example_call (without_last_row key₁) 0 1 9) ∷ part key_pass (key_example_call key₁ 0 1 1) ∷ []
+      ≡ gives 96 ∷ refuses 3 ∷ gives 16 ∷ []
+  pub smoothed : parts key_pass key_list ≡ 112
   pub further : FurtherCalls key_pass key_picture 2 (left key₂ 2) (left key₃ 3)
   pub further-put-in : FurtherCalls key_pass key_picture 2 (left key₂ 2) (left key₃' 3)
   -- a final sample, which is not what was first lent: column 4
@@ -39,6 +45,8 @@ pub record InterShown : Type 0 where
       plan_at (settings false true) 20 true ∷ plan_at (settings false false) 20 true ∷ []
       ≡ filter true (mb_filter 1 20 64) (subblock_filter 1 20 60) true ∷ filter true (mb_filter 2 20 64) (subblock_filter 2 20 60) true ∷ []
   pub k : done inter_pass inter_picture inter_list ≡ 1
+  -- the inner edges of the first macroblock, luma and chroma, by the last call alone
+  pub smoothed : parts inter_pass inter_list ≡ 128
   pub further : FurtherCalls inter_pass inter_picture 1 (left inter₁ 1) (left inter₂ 2)
   pub further-put-in : FurtherCalls inter_pass inter_picture 1 (left inter₁ 1) (left (put inter₂') 2)
   -- a final sample, which is not what was first lent: row 4

@@ -9,9 +9,9 @@ use Rattle.planes.specs.GridRefusals.{zero_grid}
 use Rattle.planes.specs.Smoothed.{macroblock_smoothed}
 use Rattle.calls.specs.Entries.{Entry}
 use Rattle.calls.specs.Pass.{Pass, Call, refusal, step, count, answer}
-use Rattle.calls.specs.Calls.{Picture, done}
+use Rattle.calls.specs.Calls.{Picture, Accepted, done, Unbroken}
 
--- in document 01's step of macroblock m
+-- how many positions document 01's step of macroblock m smooths
 unfoldable pub step_smoothed : (W : Pass) → Grid → FrameFilterConfig → (ℕ → Entry) → (m : ℕ) → Planes → ℕ
 step_smoothed W g settings entries = macroblock_smoothed g (λ m. W.plan settings (entries m))
 
@@ -42,16 +42,22 @@ module _ (W : Pass) where
 
   -- Of every call, whatever its arguments.
   pub record OfEveryPart : Type 0 where
-    -- a call has a part where it is answered with a count, and its refusal's number where it is refused
+    -- "Accepted calls return their own part": a call has a part where it is answered with a count, and its refusal's number where it is refused
+    pub accepted : (a : Call W) → Accepted W a → (n : ℕ) × (part W a ≡ gives n)
     pub refused : (a : Call W) (number : ℕ) → answer W a ≡ refuses number → part W a ≡ refuses number
     -- no total comes near 2 ^ 64
     pub most : (a : Call W) (n : ℕ) → part W a ≡ gives n → n ≤ most_positions * count W a
     pub bounded : (a : Call W) (n : ℕ) → part W a ≡ gives n → n ≤ most_positions * 1048576
-    -- nothing is smoothed in a zero grid, nor where every macroblock is left alone
+    -- nothing is smoothed in a zero grid, nor where the call's own macroblocks are left alone, as at level 0
     pub zero-grid : (a : Call W) → zero_grid a.grid ≡ true → part W a ≡ gives 0
-    pub left_alone : (a : Call W) → ((e : Entry) → W.plan a.settings e ≡ leave) → (n : ℕ) → part W a ≡ gives n → n ≡ 0
+    pub left_alone :
+        (a : Call W) → ((m : ℕ) → a.start ≤ m → m < a.start + count W a → W.plan a.settings (W.entry a.carried m) ≡ leave)
+        → (n : ℕ) → part W a ≡ gives n → n ≡ 0
 
   -- Of a list of calls on the picture, from start 0 and the planes p: `done pic list` is document 01's k.
   pub record PartsPromise (pic : Picture) (p : Planes) (list : List (Call W)) : Type 0 where
+    -- "over a list of the halting rule the parts add up to the total of its first k steps"
     pub added : parts list ≡ first_smoothed pic (done W pic list) p
+    -- Where k is the whole grid, they add up to what one unbroken pass tells.
+    pub unbroken : done W pic list ≡ macroblocks pic.grid → (a : Call W) → Unbroken W pic p a → part W a ≡ gives (parts list)
     pub most : parts list ≤ most_positions * done W pic list

@@ -53,6 +53,6 @@ module _ (W : Pass) (layout : PlaneLayout) (carried : W.Carried) (config : Frame
     skipped z b h =
         let off = eq-eqb config.loop_filter_level 0 z in
         (batch_meets (skipping W) (frame_call W the_call) b (judged ∙ h)).done 0 p
-        (sym (tally-none (step (skipping W) (grid_of layout) config (W.entry carried)) (step_smoothed (skipping W) (grid_of layout) config (W.entry carried))
-        (λ m q. left-smoothed (grid_of layout) (λ i. (skipping W).plan config (W.entry carried i)) m q (ap (λ (t : Bool). cond t leave (W.plan config (W.entry carried m))) off)) _ _ p))
+        (sym (tally-none (step (skipping W) (grid_of layout) config (W.entry carried)) (step_smoothed (skipping W) (grid_of layout) config (W.entry carried)) _ _
+        (λ m b l q. left-smoothed (grid_of layout) (λ i. (skipping W).plan config (W.entry carried i)) m q (ap (λ (t : Bool). cond t leave (W.plan config (W.entry carried m))) off)) p))
         (sym (steps-skipped W (grid_of layout) config (W.entry carried) _ _ p off))

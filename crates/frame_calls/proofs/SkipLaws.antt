@@ -45,7 +45,7 @@ module _ (W : Pass) where
   pub beside-pass : (a : Call W) → BesidePass W a
   unfolding answer refusal count next planes_after part step step_smoothed
   beside-pass a = record {
-    skipped-part = λ off n e. (every-part (skipping W)).left_alone (frame_call W a) (λ x. ap (λ (b : Bool). cond b leave (W.plan a.settings x)) off) n e;
+    skipped-part = λ off n e. (every-part (skipping W)).left_alone (frame_call W a) (λ m b l. ap (λ (t : Bool). cond t leave (W.plan a.settings (W.entry a.carried m))) off) n e;
     same-part = λ on. ap smoothed_if on;
     same_answer = refl;
     skipped = λ off. ap kept (steps-skipped W a.grid a.settings (W.entry a.carried) a.start (count W a) a.lent off) ∙ same (eqb (refusal W a) 0);
@@ -80,8 +80,8 @@ module _ (W : Pass) where
   none_of : (pic : Picture) (p : Planes) → filter_off pic.settings ≡ true → (k : ℕ) → first_smoothed (skipping W) pic k p ≡ 0
   unfolding first_smoothed step_smoothed
   none_of pic p off k =
-      tally-none (step (skipping W) pic.grid pic.settings pic.entries) (step_smoothed (skipping W) pic.grid pic.settings pic.entries)
-      (λ m q. left-smoothed pic.grid (λ i. (skipping W).plan pic.settings (pic.entries i)) m q (ap (λ (b : Bool). cond b leave (W.plan pic.settings (pic.entries m))) off)) 0 k p
+      tally-none (step (skipping W) pic.grid pic.settings pic.entries) (step_smoothed (skipping W) pic.grid pic.settings pic.entries) 0 k
+      (λ m b l q. left-smoothed pic.grid (λ i. (skipping W).plan pic.settings (pic.entries i)) m q (ap (λ (b : Bool). cond b leave (W.plan pic.settings (pic.entries m))) off)) p
 
   pub skipped-list : (pic : Picture) (p : Planes) (list : List (Call (skipping W))) (h : LastLeft)
       → Calls (skipping W) pic (record { planes = p; start = 0 }) list h → filter_off pic.settings ≡ true → SkippedList W pic p list h

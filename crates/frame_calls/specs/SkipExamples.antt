@@ -4,17 +4,19 @@ use Rattle.arithmetic.specs.Numbers.{clamp, u2s, s2u, shr}
 use Rattle.arithmetic.specs.Limits.{at_least_one, interior_limit, hev_threshold, mbedge_limit, sub_bedge_limit, with_interior, derive}
 use Rattle.arithmetic.specs.Outcome.{gives, refuses}
 use Rattle.kernels.specs.Kernels as kernels
-use Rattle.kernels.specs.Segment.{half, taps, smooth, gather, scatter, segment}
+use Rattle.kernels.specs.Segment.{half, taps, smooth, gather, scatter, segment, passes, passes_at, mark}
 use Rattle.levels.specs.Encodings.{mode_of, reference_of, inter_mode_of, bad_mode, bad_reference, bad_inter_mode}
 use Rattle.levels.specs.Levels as levels
 use Rattle.levels.specs.declared.config.FrameFilterConfig.{FrameFilterConfig}
-use Rattle.planes.specs.Steps.{steps}
+use Rattle.planes.specs.Steps.{steps, tally}
 use Rattle.planes.specs.Planes.{Planes}
 use Rattle.planes.specs.Edges.{first_row, first_column, edge_tap, filter_edge, borders, insides, places}
 use Rattle.planes.specs.Macroblock.{only, edge_at, edges_at, filter_edges, filter_macroblock}
+use Rattle.planes.specs.Smoothed.{edge_smoothed, edges_smoothed, macroblock_smoothed}
 use Rattle.planes.specs.GridRefusals.{zero_grid, too_large, bad_strides, needed, short_planes, after_grid}
 use Rattle.calls.specs.Entries.{KeyCarried, InterCarried, segment_byte, key_record, no_record, entry_of, key_entry, inter_entry, length_is_not, key_lengths_wrong, inter_lengths_wrong, key_bad_entry, inter_bad_entry}
 use Rattle.calls.specs.Pass.{Call, key_pass, inter_pass, is_b, inside_of, plan_with, plan_at, key_plan, inter_plan, refusal, step, count, next, answer, planes_after}
+use Rattle.calls.specs.Smoothed.{step_smoothed, part}
 use Rattle.calls.specs.ExampleCalls.{key_grid, key_example_lists, key_example_records, key₀, key₃, without_last_row, inter_grid, inter_example_lists, inter₀, inter₂}
 use Rattle.frame_calls.specs.Skip.{filter_off, key_frame_pass, inter_frame_pass, frame_call}
 
@@ -68,6 +70,9 @@ pub record SkipShown : Type 0 where
   pub segments-left : planes_after key_frame_pass (frame_call key_pass (key_lifted true key_bytes key₀ 0 3)) ≡ key₀
   pub inter-filtered : planes_after inter_pass (inter_lifted 0 0 2) ≡ inter₂
   pub inter_left : planes_after inter_frame_pass (frame_call inter_pass (inter_lifted 0 0 2)) ≡ inter₀
+  -- and of what it leaves it smooths nothing
+  pub smoothed :
+      part key_pass (key_lifted false key_bytes key₀ 0 3) ∷ part key_frame_pass (frame_call key_pass (key_lifted false key_bytes key₀ 0 3)) ∷ [] ≡ gives 128 ∷ gives 0 ∷ []
   -- what is skipped counts as done
   pub counted :
       answer key_frame_pass (frame_call key_pass (key_lifted false key_bytes key₀ 0 2)) ∷ answer key_frame_pass (frame_call key_pass (key_lifted false key_bytes key₀ 2 9))
@@ -90,6 +95,7 @@ unfolding clamp u2s s2u shr at_least_one interior_limit hev_threshold mbedge_lim
     steps first_row first_column edge_tap filter_edge borders insides places only edge_at edges_at filter_edges filter_macroblock
     zero_grid too_large bad_strides needed short_planes after_grid entry_of key_entry inter_entry segment_byte key_record no_record length_is_not key_lengths_wrong inter_lengths_wrong key_bad_entry inter_bad_entry
     is_b inside_of plan_with plan_at key_plan inter_plan refusal step count next answer planes_after filter_off
+    passes passes_at mark tally edge_smoothed edges_smoothed macroblock_smoothed step_smoothed part
 skip-shown = record {
   key-filtered = refl;
   key_left = refl;
@@ -99,6 +105,7 @@ skip-shown = record {
   segments-left = refl;
   inter-filtered = refl;
   inter_left = refl;
+  smoothed = refl;
   counted = refl;
   refused = refl;
 }

@@ -7,7 +7,7 @@ use crate::bounds::{Bounds, bounds_of};
 use crate::limits::EdgeLimits;
 use crate::taps::{Taps, outer_near, taps_of};
 use crate::tries::{try_high, try_low};
-use crate::values::low_variance;
+use crate::values::{inner_near, low_variance};
 use crate::whole::whole;
 
 // Low variance. A struct of the window, its taps and its bounds would hold the window by reference, and be opened in each function.
@@ -36,7 +36,7 @@ fn beyond<const WIDE: bool>(window: &mut [u8; 8], w: Taps, s: Bounds) -> bool
     requires beyond { inner_near s.inner w ≡ false }
     ensures { Filtered WIDE s.limits window.old result window.new }
 {
-    low_variance(s.limits.interior, w.near) && high::<WIDE>(window, w, s)
+    inner_near(s.limits.interior, w.near) && high::<WIDE>(window, w, s)
 }
 
 // The outer distances are near.

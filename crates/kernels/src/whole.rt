@@ -56,12 +56,30 @@ fn at_edge<const WIDE: bool>(limits: EdgeLimits, window: &mut [u8; 8], w: Taps) 
     passes
 }
 
-// mb_filter or subblock_filter, where the bounds decide nothing. A function of its own beside `passed`, whose tests it makes, since it has
-// every clamp and `passed` none: few windows come here, and the compiler keeps it out of the loops over an edge's rows.
+// mb_filter or subblock_filter. A function of its own beside `passed`, whose tests it makes, since it has every clamp and `passed` none: few
+// windows come here, and the compiler keeps it out of the loops over an edge's rows. The limits come apart: of a struct the loops would keep
+// a copy for this call, as a byte and a word, and wait for the word at each edge, which takes the normal filter 1 % more.
 #[inline(never)]
+fn test_by_test<const WIDE: bool>(
+    threshold: u8,
+    interior: u8,
+    limit: u8,
+    window: &mut [u8; 8],
+) -> bool
+    ensures { Filtered WIDE (record { threshold = threshold; interior = interior; limit = limit }) window.old result window.new }
+{
+    let limits = EdgeLimits {
+        threshold,
+        interior,
+        limit,
+    };
+    let w = taps_of(window);
+    neighbours_near(interior, w) && at_edge::<WIDE>(limits, window, w)
+}
+
+// Where the bounds decide nothing.
 pub(crate) fn whole<const WIDE: bool>(limits: EdgeLimits, window: &mut [u8; 8]) -> bool
     ensures { Filtered WIDE limits window.old result window.new }
 {
-    let w = taps_of(window);
-    neighbours_near(limits.interior, w) && at_edge::<WIDE>(limits, window, w)
+    test_by_test::<WIDE>(limits.threshold, limits.interior, limits.limit, window)
 }

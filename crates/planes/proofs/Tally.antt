@@ -28,11 +28,12 @@ module _ {S : Type 0} (f : ℕ → S → S) (counted : ℕ → S → ℕ) where
   tally-most most h from zero s = omega arith
   tally-most most h from (suc n) s = omega (arith, h from s, tally-most most h (suc from) n (f from s), mul-suc most n)
 
-  -- where nothing counts
-  pub tally-none : ((j : ℕ) (s : S) → counted j s ≡ 0) → (from n : ℕ) (s : S) → tally f counted from n s ≡ 0
+  -- where none of them counts
+  pub tally-none : (from n : ℕ) → ((j : ℕ) → from ≤ j → j < from + n → (s : S) → counted j s ≡ 0) → (s : S) → tally f counted from n s ≡ 0
   unfolding tally
-  tally-none h from zero s = refl
-  tally-none h from (suc n) s = omega (arith, h from s, tally-none h (suc from) n (f from s))
+  tally-none from zero h s = refl
+  tally-none from (suc n) h s =
+      omega (arith, h from (omega arith) (omega arith) s, tally-none (suc from) n (λ j a b. h j (omega (arith, a)) (omega (arith, b))) (f from s))
 
 -- steps that are the same below n, and count the same
 pub tally-ext :

@@ -121,10 +121,12 @@ pub left_alone : (g : Grid) (m : ℕ) (p : Planes) → filter_macroblock g (λ _
 unfolding filter_macroblock places borders insides edges_at edge_at filter_edges
 left_alone g m p = refl
 
--- figure M: a single macroblock with no inner edges
-pub figure-m : (chroma : Bool) (outer inner : Kernel) (p : Planes) → filter_macroblock single (λ _. filter chroma outer inner false) 0 p ≡ p
-unfolding filter_macroblock places borders insides edges_at edge_at only filter_edges
-figure-m chroma outer inner p = refl
+-- figure M: a single macroblock with no inner edges, of which nothing is smoothed
+pub figure-m :
+    (chroma : Bool) (outer inner : Kernel) (p : Planes)
+    → (filter_macroblock single (λ _. filter chroma outer inner false) 0 p ≡ p) × (macroblock_smoothed single (λ _. filter chroma outer inner false) 0 p ≡ 0)
+unfolding filter_macroblock macroblock_smoothed places borders insides edges_at edge_at only filter_edges edges_smoothed
+figure-m chroma outer inner p = (refl, refl)
 
 -- figure N: two columns, one row, halted after 1: luma columns 0 to 12 and chroma columns 0 to 4 are final
 pub figure-n : (q : Plane) (row column : ℕ) → column + 4 ≤ side q → Clear (Reach pair) 1 2 (record { on = q; index = row * stride pair q + column })

@@ -11,7 +11,7 @@ const APART: [(&str, usize); 5] = [
     ("edges::vertical::simple_rows", 1),
     ("edges::horizontal::normal_rows", 4),
     ("edges::horizontal::simple_rows", 1),
-    ("kernels::whole::whole", 2),
+    ("kernels::whole::test_by_test", 2),
 ];
 
 /// Kernels and runs that are to lie in those loops, and the look-up of a limit, which is to lie in the step of a macroblock: of these

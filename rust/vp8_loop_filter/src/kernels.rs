@@ -137,7 +137,18 @@ pub fn subblock_filter(
     subblock_filter_passed(hev_threshold, interior_limit, edge_limit, seg, base).map(|_| ())
 }
 
-/// [`subblock_filter`], and whether its test passed.
+/// [`subblock_filter`], and whether its test passed. A window whose test passes may come out as it was.
+///
+/// ```
+/// use vp8_loop_filter::subblock_filter_passed;
+///
+/// let mut row = [108, 108, 108, 108, 100, 100, 100, 100];
+/// assert!(!subblock_filter_passed(0, 1, 19, &mut row, 0)?);
+/// assert!(subblock_filter_passed(0, 1, 20, &mut row, 0)?);
+/// assert_eq!(row, [108, 108, 107, 105, 103, 101, 100, 100]);
+/// assert!(subblock_filter_passed(0, 0, 0, &mut [7; 8], 0)?);
+/// # Ok::<(), vp8_loop_filter::Refusal>(())
+/// ```
 pub fn subblock_filter_passed(
     hev_threshold: u8,
     interior_limit: u8,
@@ -161,7 +172,18 @@ pub fn mb_filter(
     mb_filter_passed(hev_threshold, interior_limit, edge_limit, seg, base).map(|_| ())
 }
 
-/// [`mb_filter`], and whether its test passed.
+/// [`mb_filter`], and whether its test passed. A window whose test passes may come out as it was.
+///
+/// ```
+/// use vp8_loop_filter::mb_filter_passed;
+///
+/// let mut row = [100, 100, 100, 100, 108, 108, 108, 108];
+/// assert!(!mb_filter_passed(0, 1, 19, &mut row, 0)?);
+/// assert!(mb_filter_passed(0, 1, 20, &mut row, 0)?);
+/// assert_eq!(row, [100, 101, 102, 103, 105, 106, 107, 108]);
+/// assert!(mb_filter_passed(0, 0, 0, &mut [7; 8], 0)?);
+/// # Ok::<(), vp8_loop_filter::Refusal>(())
+/// ```
 pub fn mb_filter_passed(
     hev_threshold: u8,
     interior_limit: u8,

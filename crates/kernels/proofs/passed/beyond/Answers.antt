@@ -3,7 +3,7 @@ use Rattle.kernels.proofs.Filtered.{of-answer}
 use Rattle.kernels.proofs.Decided.{inner-far}
 use Rattle.kernels.proofs.passed.beyond.Goals as goal
 
-pub returns-else-low_variance : goal.returns-else-low_variance
-returns-else-low_variance g c =
+pub returns-else-inner_near : goal.returns-else-inner_near
+returns-else-inner_near g c =
     let x = c.args in
-    of-answer c.if-low_variance.false (inner-far _ x.window.now x.w x.s c.requires.window (sym c.low_variance.ensures ∙ c.if-low_variance.false))
+    of-answer c.if-inner_near.false (inner-far _ x.window.now x.w x.s c.requires.window (sym c.inner_near.ensures ∙ c.if-inner_near.false))

@@ -42,7 +42,7 @@ module _ (W : Pass) where
 
   -- Of every call, whatever its arguments.
   pub record OfEveryPart : Type 0 where
-    -- "Accepted calls return their own part": a call has a part where it is answered with a count, and its refusal's number where it is refused
+    -- a call that is answered with a count has a part, which `part` says; a refused one has its refusal's number
     pub accepted : (a : Call W) → Accepted W a → (n : ℕ) × (part W a ≡ gives n)
     pub refused : (a : Call W) (number : ℕ) → answer W a ≡ refuses number → part W a ≡ refuses number
     -- no total comes near 2 ^ 64

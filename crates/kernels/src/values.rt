@@ -35,8 +35,8 @@ pub(crate) fn low_variance(threshold: u8, w: Near) -> bool
     near(w.p1, w.p0, threshold) & near(w.q1, w.q0, threshold)
 }
 
-// The same test, with the samples of each distance the other way round. Where one window is tested by both, `low_variance` twice has the
-// compiler compute the differences ahead of either test, and the normal filter takes 4 % more.
+// The same test, with the samples of each distance the other way round. Of a window that both test, `low_variance` in both places would
+// have the compiler compute the differences ahead of either test, and the normal filter would take 4 % more.
 pub(crate) fn inner_near(limit: u8, w: Near) -> bool
     ensures { result ≡ win.low_variance limit w.p1 w.p0 w.q0 w.q1 }
 {

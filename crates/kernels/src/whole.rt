@@ -56,9 +56,9 @@ fn at_edge<const WIDE: bool>(limits: EdgeLimits, window: &mut [u8; 8], w: Taps) 
     passes
 }
 
-// mb_filter or subblock_filter. A function of its own beside `passed`, whose tests it makes, since it has every clamp and `passed` none: few
-// windows come here, and the compiler keeps it out of the loops over an edge's rows. The limits come apart: of a struct the loops would keep
-// a copy for this call, as a byte and a word, and wait for the word at each edge, which takes the normal filter 1 % more.
+// mb_filter or subblock_filter. A function of its own beside `passed`, whose tests it makes, since it has every clamp and `passed` none:
+// few windows come here, and the compiler keeps it out of the loops over an edge's rows. The limits come one by one: of a struct the loops
+// would keep a copy for this call, as a byte and a word, and wait for the word at each edge: the normal filter would take 5 % more.
 #[inline(never)]
 fn test_by_test<const WIDE: bool>(
     threshold: u8,

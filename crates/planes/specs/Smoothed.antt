@@ -11,11 +11,11 @@ unfoldable pub edge_smoothed : Grid → (r c : ℕ) → Edge → List ℕ → �
 edge_smoothed g r c e =
     tally (λ j. segment e.kernel (edge_tap g r c e j)) (λ j l. mark (passes_at e.kernel (edge_tap g r c e j) l)) 0 (side e.on)
 
--- how many of a list of edges, each edge on the planes as the edges before it left them: the order of `filter_edges`
+-- how many positions of a list of edges: each edge on the planes as the edges before it left them, in the order of `filter_edges`
 unfoldable pub edges_smoothed : Grid → (r c : ℕ) → List Edge → Planes → ℕ
 edges_smoothed g r c [] p = 0
 edges_smoothed g r c (e ∷ es) p = edge_smoothed g r c e (plane e.on p) + edges_smoothed g r c es (on_plane e.on (filter_edge g r c e) p)
 
--- how many the step of macroblock m smooths
+-- how many positions the step of macroblock m smooths
 unfoldable pub macroblock_smoothed : Grid → (plan : ℕ → Plan) → (m : ℕ) → Planes → ℕ
 macroblock_smoothed g plan m = edges_smoothed g (grid_row g m) (grid_column g m) (edges_at (plan m) (grid_row g m) (grid_column g m) places)

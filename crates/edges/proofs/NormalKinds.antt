@@ -9,8 +9,8 @@ use lib.ListN.{get_or}
 use Rattle.kernels.specs.Kernels as K
 use Rattle.kernels.specs.Segment.{Kernel, mb_filter, subblock_filter, half, taps, smooth, passes}
 use Rattle.edges.specs.declared.position.EightTaps.{EightTaps}
-use Rattle.edges.specs.Private.Runs.{SignedEight, SignedSix, inner_taps}
-use Rattle.edges.specs.Private.Normal.{NormalKind, macroblock, subblock}
+use Rattle.edges.specs.Taps.{SignedEight, inner_taps, NormalKind, macroblock, subblock}
+use Rattle.edges.specs.Private.Runs.{SignedSix}
 use Rattle.edges.proofs.TapPositions.{mb-in, sub_in}
 
 -- of eight samples, p2 and q2 are P and Q

@@ -13,8 +13,8 @@ use Rattle.kernels.specs.Segment.{Kernel, simple_segment, mb_filter, half, taps,
 use Rattle.kernels.proofs.Apart.{edge-signed}
 use Rattle.planes.specs.Edges.{horizontal}
 use Rattle.edges.specs.EdgeFrom.{tap_from, smoothed_from}
+use Rattle.edges.specs.Taps.{NormalKind}
 use Rattle.edges.specs.Private.Runs.{rows_at, eight_at, four_at, normal_passes, simple_passes, marks_of}
-use Rattle.edges.specs.Private.Normal.{NormalKind}
 use Rattle.edges.proofs.NormalKinds.{kind-taps, kind-test}
 use Rattle.edges.proofs.TapsFirst.{tests-first}
 use Rattle.edges.proofs.RowStores.{column_apart}

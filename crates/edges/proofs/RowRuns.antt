@@ -17,8 +17,8 @@ use Rattle.kernels.proofs.SegmentLaws.{stored, stored_at}
 use Rattle.planes.specs.Steps.{steps}
 use Rattle.planes.specs.Edges.{horizontal}
 use Rattle.edges.specs.EdgeFrom.{tap_from, edge_from}
-use Rattle.edges.specs.Private.Runs.{row_at, rows_at, store_row, store_row_of, store_rows, SignedRow, SignedRows, SignedSix, eight_at, four_at, eight_samples, four_samples, inner_taps, edge_taps, run_of_eight, run_of_four}
-use Rattle.edges.specs.Private.Normal.{NormalKind}
+use Rattle.edges.specs.Taps.{eight_samples, inner_taps, NormalKind}
+use Rattle.edges.specs.Private.Runs.{row_at, rows_at, store_row, store_row_of, store_rows, SignedRow, SignedRows, SignedSix, eight_at, four_at, four_samples, edge_taps, run_of_eight, run_of_four}
 use Rattle.edges.proofs.NormalKinds.{Outer, kind-few, kind-taps, kind-signed, kind-reach}
 use Rattle.planes.proofs.Steps.{steps-ext}
 use Rattle.arithmetic.proofs.Tables.{get_or-table}

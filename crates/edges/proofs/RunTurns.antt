@@ -15,7 +15,8 @@ use Rattle.kernels.specs.Segment.{Kernel, mark}
 use Rattle.kernels.proofs.SegmentLaws.{mark-most}
 use Rattle.edges.specs.declared.position.InnerTaps.{InnerTaps}
 use Rattle.edges.specs.declared.position.EdgeTaps.{EdgeTaps}
-use Rattle.edges.specs.Private.Runs.{eight_at, four_at, inner_taps, edge_taps, store_tap, store_inner, run_of_eight, run_of_four, SignedRows, SignedEight, SignedFour, SignedSix, marks_of}
+use Rattle.edges.specs.Taps.{inner_taps, SignedEight, SignedFour}
+use Rattle.edges.specs.Private.Runs.{eight_at, four_at, edge_taps, store_tap, store_inner, run_of_eight, run_of_four, SignedRows, SignedSix, marks_of}
 use Rattle.edges.proofs.TapNumbers.{back}
 use Rattle.edges.proofs.TapPositions.{SignedTwo}
 use Rattle.arithmetic.proofs.Tables.{length-table, get_or-table, fill_none, fill-turn, fill_end}

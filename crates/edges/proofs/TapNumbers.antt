@@ -16,7 +16,8 @@ use Rattle.kernels.specs.Kernels.{apart, filter_value, gain_of, loss_of, part}
 use Rattle.arithmetic.proofs.Ranges as R
 use Rattle.edges.specs.declared.position.FourTaps.{FourTaps}
 use Rattle.edges.specs.declared.position.EightTaps.{EightTaps}
-use Rattle.edges.specs.Private.Runs.{SignedFour, SignedEight, variance, roughness, value_of}
+use Rattle.edges.specs.Taps.{SignedFour, SignedEight}
+use Rattle.edges.specs.Private.Runs.{variance, roughness, value_of}
 
 -- ---- a tap in a local
 

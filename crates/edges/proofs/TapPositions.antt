@@ -17,7 +17,8 @@ use Rattle.edges.specs.declared.position.InnerTaps.{InnerTaps}
 use Rattle.edges.specs.declared.position.EdgeTaps.{EdgeTaps}
 use Rattle.edges.specs.declared.position.FourTaps.{FourTaps}
 use Rattle.edges.specs.declared.position.EightTaps.{EightTaps}
-use Rattle.edges.specs.Private.Runs.{inner_taps, edge_taps, widened, softened, SignedEight, SignedFour, SignedSix, simple_passes, normal_passes, high_of, value_of}
+use Rattle.edges.specs.Taps.{inner_taps, SignedEight, SignedFour}
+use Rattle.edges.specs.Private.Runs.{edge_taps, widened, softened, SignedSix, simple_passes, normal_passes, high_of, value_of}
 use Rattle.edges.proofs.TapNumbers.{u2s-s2u, again, s2u-byte}
 
 -- ---- a move of 0, and one that is stored

@@ -4,8 +4,8 @@ ghost use Rattle.std.specs.Prelude.{◌≡◌, ℕ};
 ghost use Rattle.kernels.specs.Answers.{kernel_outcome};
 ghost use Rattle.kernels.specs.Segment.{Kernel, mb_filter, subblock_filter, windowed, window_answer};
 ghost use Rattle.arithmetic.specs.declared.limits.LoopFilterParams.{LoopFilterParams};
-ghost use Rattle.edges.specs.Private.Runs.{SignedEight, inner_taps, limits_of};
-ghost use Rattle.edges.specs.Private.Normal.{NormalKind, macroblock, subblock};
+ghost use Rattle.edges.specs.Taps.{SignedEight, inner_taps, NormalKind, macroblock, subblock};
+ghost use Rattle.edges.specs.Private.Runs.{limits_of};
 
 use crate::position::{
     EightTaps, InnerTaps, high_variance, normal_passes, softened, tap_value, widened,

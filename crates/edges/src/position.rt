@@ -6,8 +6,9 @@ ghost use Rattle.arithmetic.specs.Numbers as num;
 ghost use Rattle.kernels.specs.Kernels as kern;
 ghost use Rattle.kernels.specs.Kernels.{apart, gain_of, loss_of};
 ghost use Rattle.kernels.specs.Segment.{simple_segment};
+ghost use Rattle.edges.specs.Taps.{SignedEight, SignedFour};
 ghost use Rattle.edges.specs.Private.Runs as spec;
-ghost use Rattle.edges.specs.Private.Runs.{SignedEight, SignedFour, edge_taps, simple_passes, normal_passes, high_of, value_of};
+ghost use Rattle.edges.specs.Private.Runs.{edge_taps, simple_passes, normal_passes, high_of, value_of};
 
 use arithmetic::signed::{at_most_123, clamp, filter_value, pick};
 use kernels::limits::EdgeLimits;

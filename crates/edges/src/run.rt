@@ -1,7 +1,7 @@
 // The kernels on rows of taps, position after position, by value (RFC 6386, section 15.1). By index: a position is read at one place of all
 // rows, and stored so.
 ghost use Rattle.std.specs.Prelude.{◌≡◌, ◌<◌};
-ghost use Rattle.kernels.specs.Segment.{simple_segment};
+ghost use Rattle.kernels.specs.Segment.{simple_segment, mark};
 ghost use Rattle.edges.specs.Private.Runs.{SignedRows, SignedSix, eight_at, four_at, store_inner, run_of_eight, run_of_four, simple_passes, normal_passes, marks_of};
 
 use crate::length::{EdgeLength, Samples};
@@ -45,6 +45,14 @@ fn set_inner<const N: usize>(rows: &mut [[i16; N]; 8], n: usize, s: InnerTaps)
     rows[6][n] = s.q2;
 }
 
+// What a position counts for: 1 where its test passed.
+#[tactic(auto, unfolding(kernels::specs::Segment::mark))]
+fn counted(passed: bool) -> u16
+    ensures { result ≡ mark passed }
+{
+    u16::from(passed)
+}
+
 // A normal kernel at every position, and how many pass. The compiler sees that the kernel at a position makes the same test.
 pub(crate) fn normal_run<E: NormalEdge, const N: usize>(
     taps: [[i16; N]; 8],
@@ -62,7 +70,7 @@ where
         let position = eight_at(&taps, n);
         let s = E::on_taps(edge, position);
         set_inner(&mut rows, n, s);
-        marks += u16::from(normal_passes(edge, position));
+        marks += counted(normal_passes(edge, position));
     }
     (rows, marks)
 }
@@ -99,7 +107,7 @@ where
         let s = simple_position(edge_limit, position);
         rows[1][n] = s.p0;
         rows[2][n] = s.q0;
-        marks += u16::from(simple_passes(edge_limit, position));
+        marks += counted(simple_passes(edge_limit, position));
     }
     (rows, marks)
 }

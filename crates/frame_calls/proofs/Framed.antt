@@ -1,6 +1,5 @@
 -- What the code of a frame call does: the pass where the header level is not 0, else the judgement alone. For every pass.
-use Rattle.std.proofs.Common.{◌≡◌, sym, ap, subst, ◌∙◌, cond, Bool, ℕ, length, Result, Ok, Err}
-use borrow.Author.Tests.{eq-eqb, ne_eqb}
+use Rattle.std.proofs.Common.{◌≡◌, sym, ap, subst, ◌∙◌, cond, Bool, true, false, ℕ, length, Result, Ok, Err}
 use Rattle.levels.specs.declared.config.FrameFilterConfig.{FrameFilterConfig}
 use Rattle.planes.specs.Planes.{Planes, macroblocks}
 use Rattle.planes.specs.Macroblock.{leave}
@@ -26,11 +25,9 @@ module _ (W : Pass) (layout : PlaneLayout) (carried : W.Carried) (config : Frame
 
   -- ---- another header level than 0
 
-  pub unskipped : (config.loop_filter_level ≡ 0 → ⊥) → (r : Result Done PassRefusal) (after : Planes) → Passed W the_call r after → Passed (skipping W) (frame_call W the_call) r after
-  unfolding filter_off
-  unskipped n r after passed =
+  pub unskipped : filter_off config ≡ false → (r : Result Done PassRefusal) (after : Planes) → Passed W the_call r after → Passed (skipping W) (frame_call W the_call) r after
+  unskipped on r after passed =
       let beside = beside-pass W the_call in
-      let on = ne_eqb config.loop_filter_level 0 n in
       record {
         answered = passed.answered ∙ sym beside.same_answer;
         counted = passed.counted ∙ sym (beside.same-part on);
@@ -48,10 +45,9 @@ module _ (W : Pass) (layout : PlaneLayout) (carried : W.Carried) (config : Frame
     skip-refused n x h q =
         subst (λ (z : Result Done PassRefusal). Passed (skipping W) (frame_call W the_call) z p) (sym q) (refusal_meets (skipping W) (frame_call W the_call) n (judged ∙ h))
 
-    pub skipped : config.loop_filter_level ≡ 0 → (b : Batch) → r ≡ Ok b → Passed (skipping W) (frame_call W the_call) (Ok (record { «count» = b.«done».«count»; «next» = b.«done».«next»; «smoothed» = 0 })) p
-    unfolding step_smoothed filter_off
-    skipped z b h =
-        let off = eq-eqb config.loop_filter_level 0 z in
+    pub skipped : filter_off config ≡ true → (b : Batch) → r ≡ Ok b → Passed (skipping W) (frame_call W the_call) (Ok (record { «count» = b.«done».«count»; «next» = b.«done».«next»; «smoothed» = 0 })) p
+    unfolding step_smoothed
+    skipped off b h =
         (batch_meets (skipping W) (frame_call W the_call) b (judged ∙ h)).done 0 p
         (sym (tally-none (step (skipping W) (grid_of layout) config (W.entry carried)) (step_smoothed (skipping W) (grid_of layout) config (W.entry carried)) _ _
         (λ m b l q. left-smoothed (grid_of layout) (λ i. (skipping W).plan config (W.entry carried i)) m q (ap (λ (t : Bool). cond t leave (W.plan config (W.entry carried m))) off)) p))

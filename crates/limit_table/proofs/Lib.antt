@@ -1,3 +1,2 @@
--- The table, entry by entry and as bytes.
+-- The table, entry by entry.
 pub mod Entries
-pub mod Flat

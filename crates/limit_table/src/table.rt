@@ -25,10 +25,17 @@ static INTERIOR_LIMITS: [[u8; 64]; 8] = [
        \x02\x02\x02\x02\x02\x02\x02\x02\x02\x02\x02\x02\x02\x02\x02\x02\x02\x02\x02\x02\x02\x02\x02\x02\x02\x02\x02\x02\x02\x02\x02\x02",
 ];
 
+// The table where it lies: whatever reads it reads it through this function.
+fn table() -> &'static [[u8; 64]; 8]
+    ensures { result.now ≡ interior_limits }
+{
+    &INTERIOR_LIMITS
+}
+
 pub fn interior_limits() -> [[u8; 64]; 8]
     ensures { result ≡ interior_limits }
 {
-    INTERIOR_LIMITS
+    *table()
 }
 
 // From the table where it has an entry, else derived.
@@ -39,8 +46,7 @@ fn interior_at(level: u8, sharpness: u8) -> u8
     if (level > LoopFilterParams::MAX_LEVEL) | (sharpness > 7) {
         return interior_limit(level, sharpness);
     }
-    let row = INTERIOR_LIMITS[usize::from(sharpness)];
-    row[usize::from(level)]
+    table()[usize::from(sharpness)][usize::from(level)]
 }
 
 // The limits that `derive` gives, with the interior limit from the table where it has one.
@@ -59,6 +65,10 @@ pub fn copy_interior_limits(into: &mut [u8]) -> usize
 {
     let n = into.len().min(512);
     let table = interior_limits();
-    into[..n].copy_from_slice(&table.as_flattened()[..n]);
+    // By index: `copy_from_slice` is a call of `memcpy`, which a caller without a C library would have to bring (docs/BOARD.md).
+    for i in 0..n {
+        let row = table[i / 64];
+        into[i] = row[i % 64];
+    }
     n
 }

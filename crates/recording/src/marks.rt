@@ -25,18 +25,6 @@ pub fn mark(rt: &impl Print, same: bool) -> io::Result<()> {
     print!(rt; "{}", if same { '.' } else { 'x' })
 }
 
-// The marks of a record: its last, or all of them where the input ended in it before the first.
-pub fn mark_record(rt: &impl Print, marks: usize, last: io::Result<bool>) -> io::Result<()> {
-    let (same, count) = match if_whole(last)? {
-        Some(same) => (same, 1),
-        None => (false, marks),
-    };
-    for _ in 0..count {
-        mark(rt, same)?;
-    }
-    Ok(())
-}
-
 // Begins a line by its name. The input has the count of the section's records before them, two bytes; where it ends in them, a mark says
 // so, and those that are there count.
 pub fn begin_section(rt: &(impl Input + Print), name: &[u8]) -> io::Result<u16> {

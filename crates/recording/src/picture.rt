@@ -4,9 +4,10 @@ ghost use Rattle.planes.specs.Layout.{planes_of};
 ghost use Rattle.planes.specs.Pictures.{planes_in, planes_lent};
 ghost use Rattle.recording.specs.Stripes.{IsStriped};
 
-use crate::input::read_array;
+use crate::input::Blocks;
 use frame::entries::{InterLists, KeyLists};
 use planes::picture::{Picture, PictureMut};
+use std::io::Read;
 use std::{array, io};
 
 // Three planes. They can be longer than the grids of recorded calls need, so that strides can be wider, and differ in length, so that one
@@ -40,12 +41,12 @@ impl<const Y: usize, const U: usize, const V: usize> Planes<Y, U, V> {
 }
 
 pub fn read_planes<const Y: usize, const U: usize, const V: usize>(
-    rt: &impl Input,
+    input: &mut Blocks<impl Read>,
 ) -> io::Result<Planes<Y, U, V>> {
     Ok(Planes {
-        y: read_array(rt)?,
-        u: read_array(rt)?,
-        v: read_array(rt)?,
+        y: input.read_array()?,
+        u: input.read_array()?,
+        v: input.read_array()?,
     })
 }
 
@@ -107,12 +108,12 @@ impl<const N: usize> Lists<N> {
     }
 }
 
-pub fn read_lists<const N: usize>(rt: &impl Input) -> io::Result<Lists<N>> {
+pub fn read_lists<const N: usize>(input: &mut Blocks<impl Read>) -> io::Result<Lists<N>> {
     Ok(Lists {
-        modes: read_array(rt)?,
-        segments: read_array(rt)?,
-        flags: read_array(rt)?,
-        references: read_array(rt)?,
-        inter_modes: read_array(rt)?,
+        modes: input.read_array()?,
+        segments: input.read_array()?,
+        flags: input.read_array()?,
+        references: input.read_array()?,
+        inter_modes: input.read_array()?,
     })
 }

@@ -1,22 +1,30 @@
 // The passes and frame calls. Each record is one recorded call, or two.
-ghost use Rattle.std.specs.Prelude.{◌≤◌};
+ghost use Rattle.std.specs.Prelude.{◌≡◌, ◌≤◌};
+ghost use Rattle.planes.specs.Pictures.{planes_lent, SameLoans};
+ghost use Rattle.calls.specs.Answers.{Passed};
+ghost use Rattle.calls.specs.PassCalls.{call_of};
+ghost use Rattle.frame_calls.specs.Skip.{skipping, frame_call};
+ghost use Rattle.replay.specs.declared.passes.Step.TheVariants.{Pass, FrameCall};
 
 use crate::records::read_records;
 use crate::sections::section;
+use calls::answers::{Done, PassRefusal};
 use calls::records::MacroblockModes;
 use frame::entries::{InterRecords, KeyRecords};
 use frame::pass::filter_frame;
 use frame_calls::frame_call::loop_filter_frame;
 use judge::entries::Entries;
 use levels::config::FrameFilterConfig;
-use recording::input::{Place, Recorded, read_place, read_recorded, read_settings};
+use planes::picture::PictureMut;
+use recording::input::{Blocks, Place, Recorded, read_place, read_recorded, read_settings};
 use recording::kinds::{Frames, Recording};
-use recording::marks::{if_whole, mark};
+use recording::marks::mark;
 use recording::picture::{Lists, Planes, Samples, read_lists, read_planes};
+use std::io::Read;
 use std::{fmt, io};
 
 // A pass, or the frame call beside it. An enum: no closure takes entries of every type, and a trait would give each function from
-// `call_sections` to `over` a type parameter for a choice that only `over` makes.
+// `call_sections` to `call_over` a type parameter for a choice that only `call_over` makes.
 #[derive(Clone, Copy)]
 pub enum Step {
     Pass,
@@ -52,11 +60,11 @@ struct Task {
     config: FrameFilterConfig,
 }
 
-fn read_task(rt: &impl Input, call: Call) -> io::Result<Task> {
+fn read_task(input: &mut Blocks<impl Read>, call: Call) -> io::Result<Task> {
     Ok(Task {
         call,
-        place: read_place(rt)?,
-        config: read_settings(rt)?,
+        place: read_place(input)?,
+        config: read_settings(input)?,
     })
 }
 
@@ -75,11 +83,22 @@ fn recorded_left<P: Copy>(recorded: Recorded<(usize, usize)>, planes: P) -> Left
     }
 }
 
-fn over<const Y: usize, const U: usize, const V: usize, E: Entries>(
+// The task's call, on planes that are lent.
+fn call_over<E: Entries>(
     task: Task,
     entries: E,
-    mut planes: Planes<Y, U, V>,
-) -> Left<Planes<Y, U, V>> {
+    picture: &mut PictureMut<'_>,
+) -> Result<Done, PassRefusal>
+    ensures loans { SameLoans picture.old picture.new }
+    ensures passed { task.call.step ≡ Pass → Passed E.pass
+        (call_of E.pass task.place.layout (E.carried entries) task.config (planes_lent picture.old)
+        task.place.start task.place.allowance)
+        result (planes_lent picture.new) }
+    ensures frame_called { task.call.step ≡ FrameCall → Passed (skipping E.pass)
+        (frame_call E.pass (call_of E.pass task.place.layout (E.carried entries) task.config (planes_lent picture.old)
+        task.place.start task.place.allowance))
+        result (planes_lent picture.new) }
+{
     let Task {
         call,
         place,
@@ -90,13 +109,19 @@ fn over<const Y: usize, const U: usize, const V: usize, E: Entries>(
         start,
         allowance,
     } = place;
+    match call.step {
+        Step::Pass => filter_frame(picture, layout, entries, config, start, allowance),
+        Step::FrameCall => loop_filter_frame(picture, layout, entries, config, start, allowance),
+    }
+}
+
+fn over<const Y: usize, const U: usize, const V: usize, E: Entries>(
+    task: Task,
+    entries: E,
+    mut planes: Planes<Y, U, V>,
+) -> Left<Planes<Y, U, V>> {
     let mut picture = planes.lend_mut();
-    let answer = match call.step {
-        Step::Pass => filter_frame(&mut picture, layout, entries, config, start, allowance),
-        Step::FrameCall => {
-            loop_filter_frame(&mut picture, layout, entries, config, start, allowance)
-        }
-    };
+    let answer = call_over(task, entries, &mut picture);
     let answer = answer.map(|done| (done.count, done.next));
     Left {
         answer: answer.map_err(u8::from),
@@ -119,14 +144,14 @@ fn over_lists<const Y: usize, const U: usize, const V: usize, const N: usize>(
 // What a recorded call has for the four macroblocks of its picture. Film, of other sizes, goes by `over_lists`: the check can't state a
 // method of a trait that has a const parameter, and on the trait itself three would be named at each impl and bound.
 trait Listed: Copy {
-    fn read(rt: &impl Input) -> io::Result<Self>;
+    fn read(input: &mut Blocks<impl Read>) -> io::Result<Self>;
 
     fn filter(self, task: Task, before: Samples) -> Left<Samples>;
 }
 
 impl Listed for Lists<4> {
-    fn read(rt: &impl Input) -> io::Result<Self> {
-        read_lists(rt)
+    fn read(input: &mut Blocks<impl Read>) -> io::Result<Self> {
+        read_lists(input)
     }
 
     fn filter(self, task: Task, before: Samples) -> Left<Samples> {
@@ -135,8 +160,8 @@ impl Listed for Lists<4> {
 }
 
 impl Listed for [MacroblockModes; 4] {
-    fn read(rt: &impl Input) -> io::Result<Self> {
-        read_records(rt)
+    fn read(input: &mut Blocks<impl Read>) -> io::Result<Self> {
+        read_records(input)
     }
 
     fn filter(self, task: Task, before: Samples) -> Left<Samples> {
@@ -149,30 +174,36 @@ impl Listed for [MacroblockModes; 4] {
 }
 
 // Place, settings, lists or records, the answer, the pictures.
-fn replay_call<L: Listed>(rt: &impl Input, call: Call, recording: Recording) -> io::Result<bool> {
-    let task = read_task(rt, call)?;
-    let listed = L::read(rt)?;
-    let recorded = read_recorded(rt)?;
-    let before: Samples = recording.read_planes(rt)?;
-    let after = recording.read_planes(rt)?;
+fn replay_call<L: Listed>(
+    input: &mut Blocks<impl Read>,
+    call: Call,
+    recording: Recording,
+) -> io::Result<bool> {
+    let task = read_task(input, call)?;
+    let listed = L::read(input)?;
+    let recorded = read_recorded(input)?;
+    let before: Samples = recording.read_planes(input)?;
+    let after = recording.read_planes(input)?;
     Ok(listed.filter(task, before) == recorded_left(recorded, after))
 }
 
-// What the second of two calls answers and leaves.
-fn read_resumed(rt: &impl Input) -> io::Result<Left<Samples>> {
-    Ok(recorded_left(read_recorded(rt)?, read_planes(rt)?))
-}
-
-// A halted call, which it marks, and the one that goes on where it ended, to the end of the grid.
-fn replay_halted(rt: &(impl Input + Print), call: Call) -> io::Result<bool> {
-    let task = read_task(rt, call)?;
-    let lists: Lists<4> = read_lists(rt)?;
-    let before: Samples = read_planes(rt)?;
-    let halted = read_recorded(rt)?;
-    let middle = read_planes(rt)?;
-    let resumed = if_whole(read_resumed(rt))?;
+// A halted call, which it marks, and the one that goes on where it ended, to the end of the grid. What the first answered and left counts for
+// its own mark alone.
+fn replay_halted(
+    rt: &(impl Input + Print),
+    input: &mut Blocks<impl Read>,
+    call: Call,
+) -> io::Result<bool> {
+    let task = read_task(input, call)?;
+    let lists: Lists<4> = read_lists(input)?;
+    let before: Samples = read_planes(input)?;
+    let mut of_first = Blocks::new(rt.reader());
+    let halted = read_recorded(&mut of_first)?;
+    let middle = read_planes(&mut of_first)?;
+    let whole = input.whole & of_first.whole;
+    let resumed = recorded_left(read_recorded(input)?, read_planes(input)?);
     let first = over_lists(task, lists, before);
-    mark(rt, first == recorded_left(halted, middle))?;
+    mark(rt, whole & (first == recorded_left(halted, middle)))?;
     let (_, start) = halted.value;
     let place = Place {
         start,
@@ -180,14 +211,13 @@ fn replay_halted(rt: &(impl Input + Print), call: Call) -> io::Result<bool> {
         ..task.place
     };
     let rest = Task { place, ..task };
-    let second = over_lists(rest, lists, first.planes);
-    Ok(resumed == Some(second))
+    Ok(over_lists(rest, lists, first.planes) == resumed)
 }
 
 // A frame of recorded film: place, settings, the answer, lists, the planes before and after.
 // A caller names the sizes, and what it reads must fit in memory.
 fn replay_film<const Y: usize, const U: usize, const V: usize, const N: usize>(
-    rt: &impl Input,
+    input: &mut Blocks<impl Read>,
     call: Call,
 ) -> io::Result<bool>
     requires luma { Y ≤ 65536 }
@@ -195,20 +225,30 @@ fn replay_film<const Y: usize, const U: usize, const V: usize, const N: usize>(
     requires red { V ≤ 65536 }
     requires lists { N ≤ 65536 }
 {
-    let task = read_task(rt, call)?;
-    let recorded = read_recorded(rt)?;
-    let lists: Lists<N> = read_lists(rt)?;
-    let before: Planes<Y, U, V> = read_planes(rt)?;
-    let after = read_planes(rt)?;
+    let task = read_task(input, call)?;
+    let recorded = read_recorded(input)?;
+    let lists: Lists<N> = read_lists(input)?;
+    let before: Planes<Y, U, V> = read_planes(input)?;
+    let after = read_planes(input)?;
     Ok(over_lists(task, lists, before) == recorded_left(recorded, after))
 }
 
+// One record. A function, since the check makes no proof of a closure that passes what it is lent on to a parameter that it calls.
+fn replay_one<I: Read, F: Fn(Call, &mut Blocks<I>) -> io::Result<bool>>(
+    replay: &F,
+    call: Call,
+    input: &mut Blocks<I>,
+) -> io::Result<bool>
+    requires { F.IsAlwaysCallable replay.now }
+{
+    replay(call, input)
+}
+
 // Two lines, of key and of inter frames: the name of the call and what its records are. The `requires` is that of `section`.
-fn both_sections<F: Fn(Call) -> io::Result<bool>>(
-    rt: &(impl Input + Print),
+fn both_sections<R: Input + Print, F: Fn(Call, &mut Blocks<R::Reader>) -> io::Result<bool>>(
+    rt: &R,
     step: Step,
     records: &str,
-    marks: usize,
     replay: F,
 ) -> io::Result<()>
     requires { F.IsAlwaysCallable replay }
@@ -216,39 +256,35 @@ fn both_sections<F: Fn(Call) -> io::Result<bool>>(
     for frames in [Frames::Key, Frames::Inter] {
         let call = Call { step, frames };
         print!(rt; "{call}")?;
-        section(rt, records, marks, || replay(call))?;
+        section(rt, records, |input| replay_one(&replay, call, input))?;
     }
     Ok(())
 }
 
 pub fn call_sections(rt: &(impl Input + Print), step: Step) -> io::Result<()> {
-    both_sections(rt, step, "", 1, |call| {
-        replay_call::<Lists<4>>(rt, call, Recording::Planes)
+    both_sections(rt, step, "", |call, input| {
+        replay_call::<Lists<4>>(input, call, Recording::Planes)
     })?;
-    both_sections(rt, step, ", nothing changes", 1, |call| {
-        replay_call::<Lists<4>>(rt, call, Recording::NoPlanes)
+    both_sections(rt, step, ", nothing changes", |call, input| {
+        replay_call::<Lists<4>>(input, call, Recording::NoPlanes)
     })?;
-    both_sections(
-        rt,
-        step,
-        ", halted and resumed",
-        2,
-        |call| replay_halted(rt, call),
-    )?;
-    both_sections(rt, step, "_records", 1, |call| {
-        replay_call::<[MacroblockModes; 4]>(rt, call, Recording::Planes)
+    both_sections(rt, step, ", halted and resumed", |call, input| {
+        replay_halted(rt, input, call)
     })?;
-    both_sections(rt, step, "_records, nothing changes", 1, |call| {
-        replay_call::<[MacroblockModes; 4]>(rt, call, Recording::NoPlanes)
+    both_sections(rt, step, "_records", |call, input| {
+        replay_call::<[MacroblockModes; 4]>(input, call, Recording::Planes)
+    })?;
+    both_sections(rt, step, "_records, nothing changes", |call, input| {
+        replay_call::<[MacroblockModes; 4]>(input, call, Recording::NoPlanes)
     })
 }
 
 // Of 64 by 64 samples, and of 16 by 16.
 pub fn film_sections(rt: &(impl Input + Print)) -> io::Result<()> {
-    both_sections(rt, Step::Pass, ", film 64x64", 1, |call| {
-        replay_film::<4096, 1024, 1024, 16>(rt, call)
+    both_sections(rt, Step::Pass, ", film 64x64", |call, input| {
+        replay_film::<4096, 1024, 1024, 16>(input, call)
     })?;
-    both_sections(rt, Step::Pass, ", film 16x16", 1, |call| {
-        replay_film::<256, 64, 64, 1>(rt, call)
+    both_sections(rt, Step::Pass, ", film 16x16", |call, input| {
+        replay_film::<256, 64, 64, 1>(input, call)
     })
 }

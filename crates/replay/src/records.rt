@@ -2,26 +2,29 @@
 // as the last one.
 use calls::records::MacroblockModes;
 use levels::cases::{inter_mode_of, mode_of, reference_of};
-use recording::input::{read_flag, read_u8};
+use recording::input::{Blocks, next_flag, next_u8};
+use std::io::Read;
 use std::{array, io};
 
-fn read_segment(rt: &impl Input) -> io::Result<Option<u8>> {
-    let present = read_flag(rt)?;
-    let segment = read_u8(rt)?;
+fn next_segment(from: &mut &[u8]) -> io::Result<Option<u8>> {
+    let present = next_flag(from)?;
+    let segment = next_u8(from)?;
     Ok(present.then_some(segment))
 }
 
-fn read_record(rt: &impl Input) -> io::Result<MacroblockModes> {
+fn next_record(from: &mut &[u8]) -> io::Result<MacroblockModes> {
     Ok(MacroblockModes {
-        y_mode: mode_of(read_u8(rt)?),
-        segment_id: read_segment(rt)?,
-        has_coeffs: read_flag(rt)?,
-        ref_frame: reference_of(read_u8(rt)?),
-        inter_mode: inter_mode_of(read_u8(rt)?),
+        y_mode: mode_of(next_u8(from)?),
+        segment_id: next_segment(from)?,
+        has_coeffs: next_flag(from)?,
+        ref_frame: reference_of(next_u8(from)?),
+        inter_mode: inter_mode_of(next_u8(from)?),
     })
 }
 
 // One for each macroblock of a picture.
-pub fn read_records(rt: &impl Input) -> io::Result<[MacroblockModes; 4]> {
-    array::try_from_fn(|_| read_record(rt))
+pub fn read_records(input: &mut Blocks<impl Read>) -> io::Result<[MacroblockModes; 4]> {
+    let block: [u8; 24] = input.read_array()?;
+    let mut from = &block[..];
+    array::try_from_fn(|_| next_record(&mut from))
 }

@@ -10,82 +10,100 @@ use levels::answers::LevelRefusal;
 use levels::coeffs::mb_has_coeffs;
 use levels::level::{calculate_mb_filter_level, calculate_mb_filter_level_inter};
 use recording::input::{
-    Recorded, read_array, read_flag, read_i8, read_i16, read_i32, read_place, read_recorded,
-    read_refusal, read_settings, read_size, read_u8,
+    Blocks, Recorded, next_array, next_flag, next_i8, next_i16, next_i32, next_refusal, next_size,
+    next_u8, read_place, read_recorded, read_settings,
 };
 use std::io;
+use std::io::Read;
 
 // `replay_clamp` to `replay_derive` each read what a record holds and call one function: what they share is in `section`.
 
-fn replay_clamp(rt: &impl Input) -> io::Result<bool> {
-    let clamped = clamp_s8(read_i32(rt)?);
-    Ok(clamped == read_i8(rt)?)
+fn replay_clamp(input: &mut Blocks<impl Read>) -> io::Result<bool> {
+    let block: [u8; 5] = input.read_array()?;
+    let mut from = &block[..];
+    let clamped = clamp_s8(next_i32(&mut from)?);
+    Ok(clamped == next_i8(&mut from)?)
 }
 
-fn replay_u2s(rt: &impl Input) -> io::Result<bool> {
-    let signed = u2s(read_u8(rt)?);
-    Ok(signed == read_i8(rt)?)
+fn replay_u2s(input: &mut Blocks<impl Read>) -> io::Result<bool> {
+    let block: [u8; 2] = input.read_array()?;
+    let mut from = &block[..];
+    let signed = u2s(next_u8(&mut from)?);
+    Ok(signed == next_i8(&mut from)?)
 }
 
-fn replay_s2u(rt: &impl Input) -> io::Result<bool> {
-    let sample = s2u(read_i32(rt)?);
-    Ok(sample == read_u8(rt)?)
+fn replay_s2u(input: &mut Blocks<impl Read>) -> io::Result<bool> {
+    let block: [u8; 5] = input.read_array()?;
+    let mut from = &block[..];
+    let sample = s2u(next_i32(&mut from)?);
+    Ok(sample == next_u8(&mut from)?)
 }
 
 // Level, sharpness and whether it is a key frame; the four limits.
-fn replay_derive(rt: &impl Input) -> io::Result<bool> {
-    let params = LoopFilterParams::derive(read_u8(rt)?, read_u8(rt)?, read_flag(rt)?);
+fn replay_derive(input: &mut Blocks<impl Read>) -> io::Result<bool> {
+    let [
+        level,
+        sharpness,
+        key_frame,
+        interior,
+        threshold,
+        macroblock,
+        inner,
+    ]: [u8; 7] = input.read_array()?;
+    let params = LoopFilterParams::derive(level, sharpness, key_frame != 0);
     let limits = [
         params.interior_limit,
         params.hev_threshold,
         params.mbedge_limit,
         params.sub_bedge_limit,
     ];
-    let after: [u8; 4] = read_array(rt)?;
-    Ok(limits == after)
+    Ok(limits == [interior, threshold, macroblock, inner])
 }
 
 pub fn number_sections(rt: &(impl Input + Print)) -> io::Result<()> {
-    section(rt, "clamp_s8", 1, || replay_clamp(rt))?;
-    section(rt, "u2s", 1, || replay_u2s(rt))?;
-    section(rt, "s2u", 1, || replay_s2u(rt))?;
-    section(rt, "derive", 1, || replay_derive(rt))
+    section(rt, "clamp_s8", |input| replay_clamp(input))?;
+    section(rt, "u2s", |input| replay_u2s(input))?;
+    section(rt, "s2u", |input| replay_s2u(input))?;
+    section(rt, "derive", |input| replay_derive(input))
 }
 
 // The samples before and after a kernel's call.
-fn read_samples(rt: &impl Input) -> io::Result<[[u8; 16]; 2]> {
-    Ok([read_array(rt)?, read_array(rt)?])
+fn read_samples(input: &mut Blocks<impl Read>) -> io::Result<[[u8; 16]; 2]> {
+    Ok([input.read_array()?, input.read_array()?])
 }
 
 // A mark, the base, the refusal and the adjustment; the samples before and after.
-fn replay_adjust(rt: &impl Input) -> io::Result<bool> {
-    let use_outer_taps = read_flag(rt)?;
-    let base = read_size(rt)?;
+fn replay_adjust(input: &mut Blocks<impl Read>) -> io::Result<bool> {
+    let block: [u8; 10] = input.read_array()?;
+    let mut from = &block[..];
+    let use_outer_taps = next_flag(&mut from)?;
+    let base = next_size(&mut from)?;
     let recorded = Recorded {
-        refusal: read_refusal(rt)?,
-        value: read_i32(rt)?,
+        refusal: next_refusal(&mut from)?,
+        value: next_i32(&mut from)?,
     };
-    let [mut samples, after] = read_samples(rt)?;
+    let [mut samples, after] = read_samples(input)?;
     let answer = common_adjust(use_outer_taps, &mut samples, base);
     Ok((answer.map_err(u8::from) == recorded.answer()) & (samples == after))
 }
 
-// After a kernel's limits: the base and the refusal; the samples before and after.
+// `from`: what its block has after a kernel's limits, the base and the refusal. The samples before and after.
 fn replay_kernel<F: FnOnce(&mut [u8], usize) -> Result<bool, KernelRefusal>>(
-    rt: &impl Input,
+    input: &mut Blocks<impl Read>,
+    mut from: &[u8],
     kernel: F,
 ) -> io::Result<bool>
     requires { F.IsAlwaysCallable kernel }
 {
-    let base = read_size(rt)?;
-    let refusal = read_refusal(rt)?;
-    let [mut samples, after] = read_samples(rt)?;
+    let base = next_size(&mut from)?;
+    let refusal = next_refusal(&mut from)?;
+    let [mut samples, after] = read_samples(input)?;
     let answer = kernel(&mut samples, base);
     Ok((answer.err().map(u8::from) == refusal) & (samples == after))
 }
 
-fn read_edge_limits(rt: &impl Input) -> io::Result<EdgeLimits> {
-    let [threshold, interior, limit]: [u8; 3] = read_array(rt)?;
+fn next_edge_limits(from: &mut &[u8]) -> io::Result<EdgeLimits> {
+    let [threshold, interior, limit]: [u8; 3] = next_array(from)?;
     Ok(EdgeLimits {
         threshold,
         interior,
@@ -94,66 +112,84 @@ fn read_edge_limits(rt: &impl Input) -> io::Result<EdgeLimits> {
 }
 
 pub fn kernel_sections(rt: &(impl Input + Print)) -> io::Result<()> {
-    section(rt, "common_adjust", 1, || replay_adjust(rt))?;
-    section(rt, "simple_segment", 1, || {
-        let edge = read_u8(rt)?;
-        replay_kernel(rt, |samples, base| simple_segment(edge, samples, base))
-    })?;
-    section(rt, "subblock_filter", 1, || {
-        let limits = read_edge_limits(rt)?;
+    section(rt, "common_adjust", |input| replay_adjust(input))?;
+    section(rt, "simple_segment", |input| {
+        let block: [u8; 6] = input.read_array()?;
+        let mut from = &block[..];
+        let edge = next_u8(&mut from)?;
         replay_kernel(
-            rt,
+            input,
+            from,
+            |samples, base| simple_segment(edge, samples, base),
+        )
+    })?;
+    section(rt, "subblock_filter", |input| {
+        let block: [u8; 8] = input.read_array()?;
+        let mut from = &block[..];
+        let limits = next_edge_limits(&mut from)?;
+        replay_kernel(
+            input,
+            from,
             |samples, base| normal_filter::<false>(limits, samples, base),
         )
     })?;
-    section(rt, "mb_filter", 1, || {
-        let limits = read_edge_limits(rt)?;
+    section(rt, "mb_filter", |input| {
+        let block: [u8; 8] = input.read_array()?;
+        let mut from = &block[..];
+        let limits = next_edge_limits(&mut from)?;
         replay_kernel(
-            rt,
+            input,
+            from,
             |samples, base| normal_filter::<true>(limits, samples, base),
         )
     })
 }
 
-// After the settings and a macroblock's entry: the refusal and the level.
-fn is_level(rt: &impl Input, answer: Result<u8, LevelRefusal>) -> io::Result<bool> {
+// `from`: what its block has after a macroblock's entry, the refusal and the level.
+fn is_level(mut from: &[u8], answer: Result<u8, LevelRefusal>) -> io::Result<bool> {
     let recorded = Recorded {
-        refusal: read_refusal(rt)?,
-        value: read_u8(rt)?,
+        refusal: next_refusal(&mut from)?,
+        value: next_u8(&mut from)?,
     };
     Ok(answer.map_err(u8::from) == recorded.answer())
 }
 
 // 400 coefficients, all 0 but the one at `at`, where there is one; and whether there are any.
-fn replay_coefficients(rt: &impl Input) -> io::Result<bool> {
-    let at = read_size(rt)?;
-    let coefficient = read_i16(rt)?;
+fn replay_coefficients(input: &mut Blocks<impl Read>) -> io::Result<bool> {
+    let block: [u8; 7] = input.read_array()?;
+    let mut from = &block[..];
+    let at = next_size(&mut from)?;
+    let coefficient = next_i16(&mut from)?;
     let mut coefficients = [0i16; 400];
     if at < coefficients.len() {
         coefficients[at] = coefficient;
     }
-    Ok(mb_has_coeffs(&coefficients) == read_flag(rt)?)
+    Ok(mb_has_coeffs(&coefficients) == next_flag(&mut from)?)
 }
 
-fn replay_final_rows(rt: &impl Input) -> io::Result<bool> {
-    let place = read_place(rt)?;
-    let recorded = read_recorded(rt)?;
+fn replay_final_rows(input: &mut Blocks<impl Read>) -> io::Result<bool> {
+    let place = read_place(input)?;
+    let recorded = read_recorded(input)?;
     let answer = final_rows(place.layout, place.start).map(|rows| (rows.luma, rows.chroma));
     Ok(answer.map_err(u8::from) == recorded.answer())
 }
 
 pub fn level_sections(rt: &(impl Input + Print)) -> io::Result<()> {
-    section(rt, "calculate_mb_filter_level", 1, || {
-        let config = read_settings(rt)?;
-        let [segment, mode]: [u8; 2] = read_array(rt)?;
-        is_level(rt, calculate_mb_filter_level(config, segment, mode))
+    section(rt, "calculate_mb_filter_level", |input| {
+        let config = read_settings(input)?;
+        let block: [u8; 4] = input.read_array()?;
+        let mut from = &block[..];
+        let [segment, mode]: [u8; 2] = next_array(&mut from)?;
+        is_level(from, calculate_mb_filter_level(config, segment, mode))
     })?;
-    section(rt, "calculate_mb_filter_level_inter", 1, || {
-        let config = read_settings(rt)?;
-        let [segment, reference, inter_mode, mode]: [u8; 4] = read_array(rt)?;
+    section(rt, "calculate_mb_filter_level_inter", |input| {
+        let config = read_settings(input)?;
+        let block: [u8; 6] = input.read_array()?;
+        let mut from = &block[..];
+        let [segment, reference, inter_mode, mode]: [u8; 4] = next_array(&mut from)?;
         let answer = calculate_mb_filter_level_inter(config, segment, reference, inter_mode, mode);
-        is_level(rt, answer)
+        is_level(from, answer)
     })?;
-    section(rt, "mb_has_coeffs", 1, || replay_coefficients(rt))?;
-    section(rt, "final_rows", 1, || replay_final_rows(rt))
+    section(rt, "mb_has_coeffs", |input| replay_coefficients(input))?;
+    section(rt, "final_rows", |input| replay_final_rows(input))
 }

@@ -5,22 +5,25 @@ mod search_input;
 mod searches;
 
 use crate::searches::replay_search;
+use recording::input::Blocks;
 use recording::kinds::{Frames, Recording};
-use recording::marks::{begin_section, end_recording, mark_record};
+use recording::marks::{begin_section, end_recording, mark};
 use std::io;
 
-// A line. A record has four marks: both sums, and both searches.
+// A line. A record has four marks: both sums, and both searches. It writes all but the last itself.
 // Each program has its own: what calls a closure has the `requires`, and a public function of a library has none. A trait in its place
 // would need none, but an impl for each kind of record.
-fn section<F: Fn() -> io::Result<bool>>(
-    rt: &(impl Input + Print),
+fn section<R: Input + Print, F: Fn(&mut Blocks<R::Reader>) -> io::Result<bool>>(
+    rt: &R,
     name: &str,
     replay: F,
 ) -> io::Result<()>
     requires { F.IsAlwaysCallable replay }
 {
     for _ in 0..begin_section(rt, name.as_bytes())? {
-        mark_record(rt, 4, replay())?;
+        let mut input = Blocks::new(rt.reader());
+        let same = replay(&mut input)?;
+        mark(rt, input.whole & same)?;
     }
     println!(rt)
 }
@@ -48,7 +51,11 @@ fn main(rt: HostRuntime) -> io::Result<()> {
             Recording::NoPlanes,
         ),
     ] {
-        section(&rt, name, || replay_search(&rt, frames, recording))?;
+        section(
+            &rt,
+            name,
+            |input| replay_search(&rt, input, frames, recording),
+        )?;
     }
     end_recording(&rt)
 }

@@ -2,12 +2,15 @@
 use levels::config::FrameFilterConfig;
 use planes::layout::PlaneLayout;
 use planes::picture::Picture;
-use recording::input::{Recorded, read_layout, read_refusal, read_settings, read_size, read_u8};
+use recording::input::{
+    Blocks, Place, Recorded, next_refusal, next_size, next_u8, read_place, read_settings,
+};
 use recording::picture::Planes;
 use search::answers::FilterParams;
 use search::candidates::Pair;
 use search::input::SearchInput;
 use std::io;
+use std::io::Read;
 use sums::source::SourcePlanes;
 
 // Scratch planes. y and u are shorter than those of a picture, so that they alone can be too short.
@@ -24,14 +27,23 @@ pub struct Task {
     uv_stride: usize,
 }
 
-pub fn read_task(rt: &impl Input) -> io::Result<Task> {
+// The size of the source stands where a pass has its start and its allowance.
+pub fn read_task(input: &mut Blocks<impl Read>) -> io::Result<Task> {
+    let Place {
+        layout,
+        start: width,
+        allowance: height,
+    } = read_place(input)?;
+    let config = read_settings(input)?;
+    let block: [u8; 8] = input.read_array()?;
+    let mut from = &block[..];
     Ok(Task {
-        layout: read_layout(rt)?,
-        width: read_size(rt)?,
-        height: read_size(rt)?,
-        config: read_settings(rt)?,
-        y_stride: read_size(rt)?,
-        uv_stride: read_size(rt)?,
+        layout,
+        config,
+        width,
+        height,
+        y_stride: next_size(&mut from)?,
+        uv_stride: next_size(&mut from)?,
     })
 }
 
@@ -66,15 +78,17 @@ impl Task {
 }
 
 // What a search answers: its refusal or its choice.
-pub fn read_choice(rt: &impl Input) -> io::Result<Recorded<FilterParams>> {
-    let refusal = read_refusal(rt)?;
+pub fn read_choice(input: &mut Blocks<impl Read>) -> io::Result<Recorded<FilterParams>> {
+    let block: [u8; 7] = input.read_array()?;
+    let mut from = &block[..];
+    let refusal = next_refusal(&mut from)?;
     let pair = Pair {
-        level: read_u8(rt)?,
-        sharpness: read_u8(rt)?,
+        level: next_u8(&mut from)?,
+        sharpness: next_u8(&mut from)?,
     };
     let value = FilterParams {
         pair,
-        count: read_size(rt)?,
+        count: next_size(&mut from)?,
     };
     Ok(Recorded { refusal, value })
 }

@@ -3,15 +3,16 @@
 use crate::search_input::{Scratch, Task, read_choice, read_task};
 use judge::entries::Entries;
 use planes::picture::PictureMut;
-use recording::input::{Recorded, read_recorded};
+use recording::input::{Blocks, Recorded, read_recorded};
 use recording::kinds::{Frames, Recording};
-use recording::marks::{if_whole, mark};
+use recording::marks::mark;
 use recording::picture::{Lists, Samples, read_lists, stripes};
 use search::answers::{FilterLevel, FilterParams};
 use search::candidates::Pair;
 use search::input::SearchInput;
 use search::search::{select_filter_level, select_filter_params};
 use std::io;
+use std::io::Read;
 use sums::answers::SearchRefusal;
 use sums::sums::reconstruction_ssd;
 
@@ -58,29 +59,30 @@ fn are_choices<E: Entries>(
 }
 
 // Task, lists, reconstruction, source, scratch after the search, sum and choice. Marks both sums and the search for level and sharpness;
-// answers for the level alone.
+// answers for the level alone. The sums are marked by the blocks that they need, and the searches by those that they alone need.
 pub fn replay_search(
     rt: &(impl Input + Print),
+    input: &mut Blocks<impl Read>,
     frames: Frames,
     recording: Recording,
 ) -> io::Result<bool> {
-    let task = read_task(rt)?;
-    let lists: Lists<4> = read_lists(rt)?;
-    let reconstruction: Samples = recording.read_planes(rt)?;
-    let source: Samples = recording.read_planes(rt)?;
-    let after: Scratch = recording.read_planes(rt)?;
-    let recorded = read_recorded(rt)?.answer();
-    let choice = if_whole(read_choice(rt))?;
-    let input = task.on(reconstruction.lend(), source.lend());
-    let sum = reconstruction_ssd(input.picture, input.layout, input.source);
-    let same = sum.map_err(u8::from) == recorded.map(|(sum, _)| sum as u64);
+    let mut of_sum = Blocks::new(rt.reader());
+    let task = read_task(&mut of_sum)?;
+    let lists: Lists<4> = read_lists(input)?;
+    let reconstruction: Samples = recording.read_planes(&mut of_sum)?;
+    let source: Samples = recording.read_planes(&mut of_sum)?;
+    let after: Scratch = recording.read_planes(input)?;
+    let recorded = read_recorded(&mut of_sum)?.answer();
+    let choice = read_choice(input)?;
+    let search = task.on(reconstruction.lend(), source.lend());
+    let sum = reconstruction_ssd(search.picture, search.layout, search.source);
+    let same = of_sum.whole & (sum.map_err(u8::from) == recorded.map(|(sum, _)| sum as u64));
     mark(rt, same)?;
     mark(rt, same)?;
-    let [params, level] = match (choice, frames) {
-        (Some(choice), Frames::Key) => are_choices(input, lists.key(), choice, after),
-        (Some(choice), Frames::Inter) => are_choices(input, lists.inter(), choice, after),
-        (None, _) => [false; 2],
+    let [params, level] = match frames {
+        Frames::Key => are_choices(search, lists.key(), choice, after),
+        Frames::Inter => are_choices(search, lists.inter(), choice, after),
     };
-    mark(rt, params)?;
+    mark(rt, input.whole & params)?;
     Ok(level)
 }

@@ -2,11 +2,8 @@
 use mathlib.Core.Path.{◌≡◌, refl, sym, ap, ◌∙◌}
 use mathlib.Core.Bool.{Bool, true, false, ◌||◌}
 use mathlib.Core.Logic.{◌≢◌, ◌⊎◌, inl, inr, ⊎_elim}
-use mathlib.Core.List.{List, [], ◌∷◌, ◌++◌}
-use Rattle.std.proofs.Common.{Result, Ok, Err, take, drop, append_assoc, take-append-drop, take-suc, drop-cons, get_or-drop, length-take-le, length-drop}
-use Rattle.std.proofs.lemmas.List.{length-append}
-use Rattle.std.proofs.Math.Seq.{set-append_seam}
-use borrow.Rule.Slice.PartMut.{mid_of, put_mid}
+use mathlib.Core.List.{List}
+use Rattle.std.proofs.Common.{Result, Ok, Err}
 use Prim.Native.Nat.{ℕ, zero, suc, ◌+◌, ◌*◌, ◌/◌, ◌%◌, ◌≤◌, ◌<◌}
 use native.Mathlib.Nat.{mul-le-mul_right, mul-zero, div-add-mod', suc-mul}
 use native.Mathlib.Numerals.{add-one}
@@ -49,30 +46,9 @@ module _ (source : List ℕ) (from : ℕ) where
   unfolding copy_row store
   row-suc n l = steps-suc store n l
 
-  -- a row copied as one part
-  row-part : (n : ℕ) (l : List ℕ) → from + n ≤ length source → from + n ≤ length l
-      → copy_row source from n l ≡ take from l ++ (take n (drop from source) ++ drop n (drop from l))
-  row-part zero l h k = sym (row-none l) ∙ sym (take-append-drop from l)
-  row-part (suc n) l h k =
-      let v : ℕ = get_or source (from + n) 0 in
-      let t : List ℕ = take n (drop from source) in
-      let rest : List ℕ = drop (suc n) (drop from l) in
-      let x : ℕ = get_or (drop from l) n 0 in
-      let long : length (take from l ++ t) ≡ from + n = omega (arith, length-append (take from l) t, length-take-le from l (omega (arith, k)), length-take-le n (drop from source) (omega (arith, h, length-drop from source))) in
-      row-suc n l
-      ∙ ap (λ (m : List ℕ). set m (from + n) v) (row-part n l (omega (arith, h)) (omega (arith, k))
-      ∙ ap (λ (ys : List ℕ). take from l ++ (t ++ ys)) (drop-cons (drop from l) n 0 (omega (arith, k, length-drop from l)))
-      ∙ sym (append_assoc (take from l) t (x ∷ rest)))
-      ∙ ap (λ (i : ℕ). set ((take from l ++ t) ++ x ∷ rest) i v) (sym long)
-      ∙ set-append_seam (take from l ++ t) x rest v
-      ∙ append_assoc (take from l) t (v ∷ rest)
-      ∙ ap (λ (ys : List ℕ). take from l ++ ys)
-      (sym (append_assoc t (v ∷ []) rest)
-      ∙ ap (λ (ys : List ℕ). ys ++ rest) (ap (λ (w : ℕ). t ++ w ∷ []) (sym (get_or-drop from source n 0)) ∙ sym (take-suc (drop from source) n 0 (omega (arith, h, length-drop from source)))))
-
-  pub row-copied : (n : ℕ) (l m : List ℕ) → from + n ≤ length source → from + n ≤ length l → m ≡ mid_of from n source
-      → put_mid from n l m ≡ copy_row source from n l
-  row-copied n l m h k e = ap (put_mid from n l) e ∙ sym (row-part n l h k)
+  pub row_more : (n : ℕ) (l m : List ℕ) → m ≡ copy_row source from n l → set m (from + n) (get_or source (from + n) 0) ≡ copy_row source from (n + 1) l
+  row_more n l m e =
+      ap (λ (z : List ℕ). set z (from + n) (get_or source (from + n) 0)) e ∙ sym (row-suc n l) ∙ ap (λ (k : ℕ). copy_row source from k l) (sym (add-one n))
 
   pub row-length : (n : ℕ) (l : List ℕ) → length (copy_row source from n l) ≡ length l
   unfolding copy_row store

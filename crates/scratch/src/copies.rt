@@ -4,11 +4,23 @@ ghost use Rattle.arithmetic.specs.Outcome.{outcome, number_of};
 ghost use Rattle.planes.specs.GridRefusals.{past_grid, grid_refusal_number};
 ghost use Rattle.planes.specs.Layout.{grid_of};
 ghost use Rattle.planes.specs.Pictures.{planes_in, planes_lent, SameLoans};
-ghost use Rattle.scratch.specs.Copies.{copy_rows, copy_grid, copied_grid};
+ghost use Rattle.scratch.specs.Copies.{copy_row, copy_rows, copy_grid, copied_grid};
 
 use planes::grid::GridRefusal;
 use planes::layout::PlaneLayout;
 use planes::picture::{Picture, PictureMut};
+
+// n samples from `from` on, in both planes. By index: `copy_from_slice` is a call of `memmove`, which a caller without a C library would
+// have to bring (docs/BOARD.md), and of a part that is lent to `iter_mut` a proof knows only the length.
+fn copy_row(source: &[u8], into: &mut [u8], from: usize, n: usize)
+    requires { (from + n ≤ length source.now) × (from + n ≤ length into.old) }
+    ensures { into.new ≡ copy_row source.now from n into.old }
+{
+    for k in 0..n {
+        let i = from + k;
+        into[i] = source[i];
+    }
+}
 
 // n rows of w samples in both planes, which have one stride.
 fn copy_rows(source: &[u8], into: &mut [u8], stride: usize, w: usize, n: usize)
@@ -17,9 +29,7 @@ fn copy_rows(source: &[u8], into: &mut [u8], stride: usize, w: usize, n: usize)
 {
     // Not `chunks` by the stride: the last would be shorter, and of what is written through them a proof knows only the length.
     for r in 0..n {
-        let from = r * stride;
-        let end = from + w;
-        into[from..end].copy_from_slice(&source[from..end]);
+        copy_row(source, into, r * stride, w);
     }
 }
 

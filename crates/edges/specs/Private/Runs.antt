@@ -12,6 +12,7 @@ use Rattle.edges.specs.declared.position.FourTaps.{FourTaps}
 use Rattle.edges.specs.declared.position.EightTaps.{EightTaps}
 use Rattle.edges.specs.declared.position.InnerTaps.{InnerTaps}
 use Rattle.edges.specs.declared.position.EdgeTaps.{EdgeTaps}
+use Rattle.edges.specs.Taps.{inner_taps}
 
 -- ---- rows
 
@@ -76,19 +77,6 @@ abbrev pub limits_of : (edge_limit : LoopFilterParams → ℕ) → LoopFilterPar
 limits_of edge_limit p = record { threshold = p.hev_threshold; interior = p.interior_limit; limit = edge_limit p }
 
 -- taps in -128..127
-pub record SignedFour (s : FourTaps) : Type 0 where
-  pub p1-in : mag s.p1 < 128
-  pub p0-in : mag s.p0 < 128
-  pub q0-in : mag s.q0 < 128
-  pub q1-in : mag s.q1 < 128
-
-pub record SignedEight (s : EightTaps) : Type 0 where
-  pub p3-in : mag s.p3 < 128
-  pub p2-in : mag s.p2 < 128
-  pub near-in : SignedFour s.near
-  pub q2-in : mag s.q2 < 128
-  pub q3-in : mag s.q3 < 128
-
 pub record SignedSix (s : InnerTaps) : Type 0 where
   pub p2-in : mag s.p2 < 128
   pub p1-in : mag s.p1 < 128
@@ -101,16 +89,7 @@ pub record SignedSix (s : InnerTaps) : Type 0 where
 abbrev pub four_samples : FourTaps → List ℕ
 four_samples s = s2u s.p1 ∷ s2u s.p0 ∷ s2u s.q0 ∷ s2u s.q1 ∷ []
 
-abbrev pub eight_samples : EightTaps → List ℕ
-eight_samples s = s2u s.p3 ∷ s2u s.p2 ∷ s2u s.near.p1 ∷ s2u s.near.p0 ∷ s2u s.near.q0 ∷ s2u s.near.q1 ∷ s2u s.q2 ∷ s2u s.q3 ∷ []
-
--- the inner taps of a segment of eight after the kernel
-unfoldable pub inner_taps : Kernel → EightTaps → InnerTaps
-inner_taps k s =
-    let vs = smooth k (eight_samples s) in
-    record { p2 = u2s (get_or vs 1 0); p1 = u2s (get_or vs 2 0); p0 = u2s (get_or vs 3 0); q0 = u2s (get_or vs 4 0); q1 = u2s (get_or vs 5 0); q2 = u2s (get_or vs 6 0) }
-
--- of a segment of four
+-- the inner taps of a segment of four after the kernel
 unfoldable pub edge_taps : Kernel → FourTaps → EdgeTaps
 edge_taps k s = let vs = smooth k (four_samples s) in record { p0 = u2s (get_or vs 1 0); q0 = u2s (get_or vs 2 0) }
 

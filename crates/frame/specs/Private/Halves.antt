@@ -1,7 +1,7 @@
 -- How many samples the kernels of a plane's edges take on each side.
 use Rattle.std.specs.Prelude.{◌≡◌, ℕ, refl}
 use Rattle.kernels.specs.Segment.{Kernel, half, simple_segment}
-use Rattle.edges.specs.Private.Normal.{NormalKind, macroblock, subblock}
+use Rattle.edges.specs.Taps.{NormalKind, macroblock, subblock}
 
 pub normal-half : {k : (threshold interior edge : ℕ) → Kernel} {changed : ℕ} → NormalKind k changed → (threshold interior edge : ℕ) → half (k threshold interior edge) ≡ 4
 unfolding half

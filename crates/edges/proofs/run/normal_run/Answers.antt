@@ -5,10 +5,11 @@ use native.Mathlib.Omega.{arith}
 use lib.ListN.{length, get_or}
 use Rattle.kernels.specs.Segment.{mark}
 use Rattle.kernels.proofs.SegmentLaws.{mark-most}
-use Rattle.edges.specs.Private.Runs.{eight_at, inner_taps, normal_passes}
+use Rattle.edges.specs.Taps.{inner_taps}
+use Rattle.edges.specs.Private.Runs.{eight_at, normal_passes}
 use Rattle.edges.proofs.ArrayRows.{rows-many, row-long}
 use Rattle.edges.proofs.NormalKinds.{kind-signed}
-use Rattle.edges.proofs.RunTurns.{eight-in, run_none, run-turn, run_end, marks-none, marks-turn, marks-most, counts}
+use Rattle.edges.proofs.RunTurns.{eight-in, run_none, run-turn, run_end, marks-none, marks-turn, marks-most}
 use Rattle.edges.proofs.run.normal_run.Goals as goal
 
 pub loop-n-init : goal.loop-n-init
@@ -31,7 +32,7 @@ normal_passes-requires g c = rw c.eight_at-position.ensures (eight-in g.row.N c.
 pub overflow_add-marks : goal.overflow_add-marks
 overflow_add-marks g c =
     let x = c.args.edge in
-    omega (arith, c.loop-n.invariant.2, marks-most (λ j. normal_passes x.interior x.limit (eight_at c.args.taps j)) c.loop-n.n, c.from-marks.ensures, counts c.normal_passes.result, mark-most c.normal_passes.result, g.bound-2.counted)
+    omega (arith, c.loop-n.invariant.2, marks-most (λ j. normal_passes x.interior x.limit (eight_at c.args.taps j)) c.loop-n.n, c.counted-marks.ensures, mark-most c.normal_passes.result, g.bound-2.counted)
 
 pub loop-n-preserved : goal.loop-n-preserved
 loop-n-preserved g c =
@@ -41,8 +42,8 @@ loop-n-preserved g c =
     let n = c.loop-n.n in (
       omega (arith, c.loop-n-test.true),
       run-turn k g.row.N n c.args.taps c.loop-n.rows _ c.on_taps-s.result long c.loop-n-test.true c.loop-n.invariant.1 (c.on_taps-s.ensures ∙ ap (inner_taps k) c.eight_at-position.ensures) c.set_inner.ensures,
-      marks-turn (λ j. normal_passes x.interior x.limit (eight_at c.args.taps j)) n c.loop-n.marks c.from-marks.result c.loop-n.invariant.2
-          (c.from-marks.ensures ∙ counts c.normal_passes.result ∙ ap mark (c.normal_passes.ensures ∙ ap (normal_passes x.interior x.limit) c.eight_at-position.ensures)),
+      marks-turn (λ j. normal_passes x.interior x.limit (eight_at c.args.taps j)) n c.loop-n.marks c.counted-marks.result c.loop-n.invariant.2
+          (c.counted-marks.ensures ∙ ap mark (c.normal_passes.ensures ∙ ap (normal_passes x.interior x.limit) c.eight_at-position.ensures)),
     )
 
 pub returns-clause-value : goal.returns-clause-value

@@ -8,7 +8,7 @@ use Rattle.kernels.proofs.SegmentLaws.{mark-most}
 use Rattle.edges.specs.Private.Runs.{four_at, edge_taps, simple_passes}
 use Rattle.edges.proofs.ArrayRows.{rows-many, row-long}
 use Rattle.edges.proofs.TapPositions.{simple-in}
-use Rattle.edges.proofs.RunTurns.{four-in, four_none, four-turn, four_end, marks-none, marks-turn, marks-most, counts}
+use Rattle.edges.proofs.RunTurns.{four-in, four_none, four-turn, four_end, marks-none, marks-turn, marks-most}
 use Rattle.edges.proofs.run.simple_run.Goals as goal
 
 pub loop-n-init : goal.loop-n-init
@@ -23,7 +23,7 @@ simple_passes-requires g c = rw c.four_at-position.ensures (four-in g.row.N c.ar
 
 pub overflow_add-marks : goal.overflow_add-marks
 overflow_add-marks g c =
-    omega (arith, c.loop-n.invariant.2, marks-most (λ j. simple_passes c.args.edge_limit (four_at c.args.taps j)) c.loop-n.n, c.from-marks.ensures, counts c.simple_passes.result, mark-most c.simple_passes.result, g.bound-1.counted)
+    omega (arith, c.loop-n.invariant.2, marks-most (λ j. simple_passes c.args.edge_limit (four_at c.args.taps j)) c.loop-n.n, c.counted-marks.ensures, mark-most c.simple_passes.result, g.bound-1.counted)
 
 pub loop-n-preserved : goal.loop-n-preserved
 loop-n-preserved g c =
@@ -34,8 +34,8 @@ loop-n-preserved g c =
       omega (arith, c.loop-n-test.true),
       four-turn (simple_segment limit) g.row.N n c.args.taps c.loop-n.rows _ c.simple_position-s.result long c.loop-n-test.true c.loop-n.invariant.1 s
           (rw s (simple-in limit _ (four-in g.row.N c.args.taps n c.loop-n-test.true c.requires))) refl,
-      marks-turn (λ j. simple_passes limit (four_at c.args.taps j)) n c.loop-n.marks c.from-marks.result c.loop-n.invariant.2
-          (c.from-marks.ensures ∙ counts c.simple_passes.result ∙ ap mark (c.simple_passes.ensures ∙ ap (simple_passes limit) c.four_at-position.ensures)),
+      marks-turn (λ j. simple_passes limit (four_at c.args.taps j)) n c.loop-n.marks c.counted-marks.result c.loop-n.invariant.2
+          (c.counted-marks.ensures ∙ ap mark (c.simple_passes.ensures ∙ ap (simple_passes limit) c.four_at-position.ensures)),
     )
 
 pub returns-clause-value : goal.returns-clause-value

@@ -14,16 +14,13 @@ unfolding smoothed
 returns-then-not-low_variance g c = c.adjust.ensures.window_after ∙ sym (left _ _ c.low_variance.ensures c.if-not-low_variance.true)
 
 pub six-requires : goal.six-requires
-unfolding wide_value
 six-requires g c =
-    let w : Near = c.args.w.near in
-    let narrow : R.Is w16 (of_z w16 c.window_value-v.result) (wide_value w.p1 w.p0 w.q0 w.q1) 128 = R.got c.window_value-v.type_inv c.window_value-v.ensures (filter-in _ _ _ _ _) in
+    let narrow : R.Is w16 (of_z w16 c.window_value-v.result) _ 128 = R.got c.window_value-v.type_inv c.window_value-v.ensures (filter-in _ _ _ _ _) in
     holds (R.cast {w' = w64} narrow tt) (omega arith)
 
 pub four-requires : goal.four-requires
 four-requires g c =
-    let w : Near = c.args.w.near in
-    let value : R.Is w64 (of_z w64 c.capped.result) (capped false w) 128 = R.got c.capped.type_inv c.capped.ensures (capped-in false w) in
+    let value : R.Is w64 (of_z w64 c.capped.result) _ 128 = R.got c.capped.type_inv c.capped.ensures (capped-in false _) in
     holds value (omega arith)
 
 pub returns-then-this-ne0 : goal.returns-then-this-ne0
